@@ -1,0 +1,3 @@
+-- The claims of document 01 about the definitions, and the laws behind them.
+pub mod Starred
+pub mod SumLaws

@@ -1,0 +1,121 @@
+-- Document 01's series with known amounts, proved of the definitions by computation.
+use Prim.Native.Nat.{ℕ, suc, _+_, _-_}
+use mathlib.Core.Path.{_≡_, refl}
+use mathlib.Core.Bool.{Bool, true, false, not, _&&_, _||_, cond}
+use mathlib.Core.List.{List, [], _∷_, _++_, map}
+use lib.Dec.{eqb, ltb, leb}
+use lib.ListN.{length, getD, replicate}
+use Rattle.series.specs.Sums.{sumBelow, bit, countBelow, listed}
+use Rattle.series.specs.Places.{total, next, steps, run, within, marked, amountsAbove, amounts}
+use Rattle.series.specs.Wheel.{blocks, interval, marks, wheelMarks, wheel, blocksUsed}
+use Rattle.series.specs.ProRata.{percentage, assignmentAmount, wholePart, decimalPart, roundOne, decimals, remainder, larger, equal, turn, rank, roundTwo, proRata}
+use Rattle.series.specs.Lottery.{startingPlace, lottery}
+use Rattle.series.specs.Refusals.{first, lengthRows, positionRows, exercisedRows, outside, drawRows, rows, verdict}
+use Rattle.series.specs.Answers.{Outcome, allocation, refusal}
+use Rattle.series.specs.Call.{assigned, further, answerTo, outputTo, answer, output}
+use Rattle.series.specs.declared.Method.{Method}
+use Rattle.series.specs.declared.Method.the-variants.{Wheel, ProRata, Lottery}
+
+-- a series with accounts 1, 2, .., S and draw
+pub record Series : Type 0 where
+  pub method : Method
+  pub shorts : List ℕ
+  pub exercised : ℕ
+  pub draw : ℕ
+
+-- what the call answers, and its output, which held one element more than the list, all 7
+pub record Result : Type 0 where
+  pub answered : Outcome
+  pub written : List ℕ
+
+abbrev series : Method → List ℕ → ℕ → ℕ → Series
+series m hs S draw = record { method = m; shorts = hs; exercised = S; draw = draw }
+
+-- the line `unfolding` names every definition that the call's answer and output compute with
+pub resultOf : Series → Result
+unfolding sumBelow bit countBelow listed total next steps run within marked amountsAbove amounts blocks interval marks wheelMarks wheel blocksUsed percentage assignmentAmount wholePart decimalPart roundOne decimals remainder larger equal turn rank roundTwo proRata startingPlace lottery first lengthRows positionRows exercisedRows outside drawRows rows verdict assigned further answerTo outputTo answer output
+resultOf s =
+    let accounts : List ℕ = listed suc (length (s .shorts)) in
+    let old : List ℕ = replicate (suc (length (s .shorts))) 7 in
+    record
+    { answered = answer (s .method) accounts (s .shorts) (s .exercised) (s .draw) (length old);
+      written = output (s .method) accounts (s .shorts) (s .exercised) (s .draw) old
+    }
+
+-- an allocation with T, the further number and the amounts, the last element kept
+abbrev allocated : ℕ → ℕ → List ℕ → Result
+allocated T f vs = record { answered = allocation T f; written = vs ++ (7 ∷ []) }
+
+abbrev M-shorts : List ℕ
+M-shorts = 5 ∷ 8 ∷ 2 ∷ 10 ∷ 11 ∷ []
+
+-- A, B, C, D, E, F, G, H, J, K, M, N
+pub starred : List Series
+starred =
+    series Wheel (60 ∷ 200 ∷ 95 ∷ []) 175 1 ∷
+    series Wheel (60 ∷ 200 ∷ 95 ∷ []) 175 340 ∷
+    series Wheel (10 ∷ 20 ∷ []) 26 29 ∷
+    series Wheel (50 ∷ 50 ∷ []) 30 1 ∷
+    series Wheel (76 ∷ 1 ∷ 77 ∷ []) 150 1 ∷
+    series ProRata (5 ∷ 3 ∷ 2 ∷ []) 4 0 ∷
+    series ProRata (3 ∷ []) 1 0 ∷
+    series ProRata (1 ∷ 1 ∷ 1 ∷ []) 1 5 ∷
+    series ProRata (1 ∷ 1 ∷ 1 ∷ []) 2 2 ∷
+    series ProRata (3 ∷ 1 ∷ 2 ∷ []) 2 0 ∷
+    series Lottery M-shorts 13 4855 ∷
+    series Lottery M-shorts 2 10000 ∷
+    []
+
+pub known : List Result
+known =
+    allocated 355 7 (35 ∷ 97 ∷ 43 ∷ []) ∷
+    allocated 355 7 (34 ∷ 98 ∷ 43 ∷ []) ∷
+    allocated 30 2 (10 ∷ 16 ∷ []) ∷
+    allocated 100 2 (25 ∷ 5 ∷ []) ∷
+    allocated 154 6 (75 ∷ 0 ∷ 75 ∷ []) ∷
+    allocated 10 1 (2 ∷ 1 ∷ 1 ∷ []) ∷
+    allocated 3 1 (1 ∷ []) ∷
+    allocated 3 1 (0 ∷ 0 ∷ 1 ∷ []) ∷
+    allocated 3 2 (1 ∷ 0 ∷ 1 ∷ []) ∷
+    allocated 6 2 (1 ∷ 0 ∷ 1 ∷ []) ∷
+    allocated 36 18 (0 ∷ 0 ∷ 0 ∷ 8 ∷ 5 ∷ []) ∷
+    allocated 36 36 (1 ∷ 0 ∷ 0 ∷ 0 ∷ 1 ∷ []) ∷
+    []
+
+-- the twelve starred series have the known numbers and amounts
+pub starred-known : map resultOf starred ≡ known
+unfolding resultOf starred known
+starred-known = refl
+
+-- T = 3 under L with draws 3333 and 3334; T = 36 with S = 36 and 37; under W the draws 36, 0 and 37
+pub boundaries : List Series
+boundaries =
+    series Lottery (1 ∷ 1 ∷ 1 ∷ []) 1 3333 ∷
+    series Lottery (1 ∷ 1 ∷ 1 ∷ []) 1 3334 ∷
+    series Lottery M-shorts 36 1 ∷
+    series Lottery M-shorts 37 1 ∷
+    series ProRata M-shorts 36 0 ∷
+    series ProRata M-shorts 37 0 ∷
+    series Wheel M-shorts 36 36 ∷
+    series Wheel M-shorts 36 0 ∷
+    series Wheel M-shorts 36 37 ∷
+    series Wheel M-shorts 37 36 ∷
+    []
+
+pub answeredOf : Series → Outcome
+unfolding resultOf
+answeredOf s = resultOf s .answered
+
+-- the starting places 1 and 2; allocated and 9; allocated, and 10 twice
+pub boundaries-known : map answeredOf boundaries ≡ allocation 3 1 ∷ allocation 3 2 ∷ allocation 36 1 ∷ refusal 9 ∷ allocation 36 0 ∷ refusal 9 ∷ allocation 36 0 ∷ refusal 10 ∷ refusal 10 ∷ refusal 9 ∷ []
+unfolding answeredOf boundaries
+boundaries-known = refl
+
+-- the places a, a + 1, .., e
+pub span : ℕ → ℕ → List ℕ
+span a e = listed (λ i. a + i) (suc e - a)
+
+-- the blocks of A
+pub blocks-of-A : wheelMarks 25 355 175 1 ≡ span 1 25 ++ (span 51 75 ++ (span 102 126 ++ (span 153 177 ++ (span 203 227 ++ (span 254 278 ++ span 305 329)))))
+unfolding span listed next steps run blocks interval marks wheelMarks
+blocks-of-A = refl

@@ -1,0 +1,9 @@
+-- Document 01 as definitions, in its order: words and places, the wheel, pro rata, the starting number, the refusals, the call.
+pub mod Sums
+pub mod Places
+pub mod Wheel
+pub mod ProRata
+pub mod Lottery
+pub mod Refusals
+pub mod Answers
+pub mod Call

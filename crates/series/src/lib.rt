@@ -1,0 +1,69 @@
+// The vocabulary of document 01: what the calls of the library take and answer with.
+ghost use mathlib.Core.Path.{_≡_};
+ghost use Rattle.series.specs.Answers.{numberOf};
+
+// A place on the wheel, document 01's "place": counts from 1.
+pub struct Place(pub u32);
+
+// A number of contracts, as T, S, a position's shorts or an amount: counts from 0.
+pub struct Contracts(pub u32);
+
+// The three methods: the wheel (W), pro rata (P), the starting number (L).
+pub enum Method {
+    Wheel,
+    ProRata,
+    Lottery,
+}
+
+// Why a call is turned away, in the order of the numbers 1 to 15 of document 01.
+pub enum Refusal {
+    LengthsDiffer,
+    TooManyPositions,
+    NoPositions,
+    OutputTooShort,
+    AccountOrder,
+    NoShorts,
+    TotalTooLarge,
+    NothingExercised,
+    ExercisedAboveTotal,
+    DrawOutOfRange,
+    TextTooLong,
+    NamesLine,
+    Malformed,
+    UnknownMethod,
+    TooManyLines,
+}
+
+// What the allocating call answers: T with the method's one further number, or a refusal.
+pub enum Answer {
+    // The number of blocks T1, 0 where S equals T.
+    Wheel { total: Contracts, blocks: u32 },
+    // The contracts of round two.
+    ProRata { total: Contracts, remainder: Contracts },
+    // The starting place.
+    Lottery { total: Contracts, start: Place },
+    Refused(Refusal),
+}
+
+// The number of a refusal in document 01.
+pub fn number(refusal: Refusal) -> u32
+    ensures { λ r. ⌜ r ≡ numberOf refusal ⌝ }
+{
+    match refusal {
+        Refusal::LengthsDiffer => 1,
+        Refusal::TooManyPositions => 2,
+        Refusal::NoPositions => 3,
+        Refusal::OutputTooShort => 4,
+        Refusal::AccountOrder => 5,
+        Refusal::NoShorts => 6,
+        Refusal::TotalTooLarge => 7,
+        Refusal::NothingExercised => 8,
+        Refusal::ExercisedAboveTotal => 9,
+        Refusal::DrawOutOfRange => 10,
+        Refusal::TextTooLong => 11,
+        Refusal::NamesLine => 12,
+        Refusal::Malformed => 13,
+        Refusal::UnknownMethod => 14,
+        Refusal::TooManyLines => 15,
+    }
+}
