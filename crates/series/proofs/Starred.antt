@@ -37,9 +37,9 @@ unfolding sumBelow bit countBelow listed total next steps run within marked amou
 resultOf s =
     let accounts : List ℕ = listed suc (length (s .shorts)) in
     let old : List ℕ = replicate (suc (length (s .shorts))) 7 in
-    record
-    { answered = answer (s .method) accounts (s .shorts) (s .exercised) (s .draw) (length old);
-      written = output (s .method) accounts (s .shorts) (s .exercised) (s .draw) old
+    record {
+      answered = answer (s .method) accounts (s .shorts) (s .exercised) (s .draw) (length old);
+      written = output (s .method) accounts (s .shorts) (s .exercised) (s .draw) old;
     }
 
 -- an allocation with T, the further number and the amounts, the last element kept

@@ -4,7 +4,8 @@ use mathlib.Core.Path.{_≡_, refl, sym, ap, ap₂, _∙_}
 use mathlib.Core.Bool.{Bool, true, false}
 use mathlib.Core.List.{List, [], _∷_, _++_}
 use native.Mathlib.Omega.{arith}
-use native.Mathlib.Nat.{le-refl, zero-le, le-trans, mul-zero}
+use native.Mathlib.Nat.{le-refl, mul-zero}
+use native.Mathlib.Decide.{decLt}
 use lib.ListN.{length, getD, length-append, List·getD-append}
 use lib.Seq.{getD-at}
 use Rattle.series.specs.Sums.{sumBelow, bit, countBelow, listed}
@@ -13,12 +14,12 @@ use Rattle.series.specs.Places.{total}
 pub sum-cong : (f g : ℕ → ℕ) (n : ℕ) → ((i : ℕ) → i < n → f i ≡ g i) → sumBelow f n ≡ sumBelow g n
 unfolding sumBelow
 sum-cong f g zero h = refl
-sum-cong f g (suc n) h = ap₂ _+_ (sum-cong f g n (λ i l. h i (omega arith))) (h n le-refl)
+sum-cong f g (suc n) h = ap₂ _+_ (sum-cong f g n (λ i l. h i (omega arith))) (h n (le-refl (suc n)))
 
 pub sum-mono : (f g : ℕ → ℕ) (n : ℕ) → ((i : ℕ) → i < n → f i ≤ g i) → sumBelow f n ≤ sumBelow g n
 unfolding sumBelow
-sum-mono f g zero h = le-refl
-sum-mono f g (suc n) h = omega (arith, sum-mono f g n (λ i l. h i (omega arith)), h n le-refl)
+sum-mono f g zero h = le-refl 0
+sum-mono f g (suc n) h = omega (arith, sum-mono f g n (λ i l. h i (omega arith)), h n (le-refl (suc n)))
 
 pub sum-add : (f g : ℕ → ℕ) (n : ℕ) → sumBelow (λ i. f i + g i) n ≡ sumBelow f n + sumBelow g n
 unfolding sumBelow
@@ -45,7 +46,8 @@ sum-head f (suc n) = omega (arith, sum-head f n)
 pub sum-term : (f : ℕ → ℕ) (n i : ℕ) → i < n → f i ≤ sumBelow f n
 unfolding sumBelow
 sum-term f zero i h = omega arith
-sum-term f (suc n) i h = elim (compareLt i n) [ yes l ↦ omega (arith, sum-term f n i l) | no g ↦ omega (arith, ap f (last i n h g)) ]
+sum-term f (suc n) i h =
+    elim (decLt i n) [ yes l ↦ omega (arith, sum-term f n i l) | no g ↦ let e : i ≡ n = omega arith in omega (arith, ap f e) ]
 
 -- the order of two sums may be changed
 pub sum-swap : (f : ℕ → ℕ → ℕ) (n m : ℕ) → sumBelow (λ i. sumBelow (f i) m) n ≡ sumBelow (λ j. sumBelow (λ i. f i j) n) m
@@ -69,6 +71,19 @@ total-listed f zero = refl
 total-listed f (suc n) = total-append (listed f n) (f n ∷ []) ∙ omega (arith, total-listed f n)
 
 pub total-sum : (hs : List ℕ) → total hs ≡ sumBelow (λ i. getD hs i 0) (length hs)
-unfolding total
+unfolding total sumBelow
 total-sum [] = refl
 total-sum (h ∷ hs) = ap (h +_) (total-sum hs) ∙ sym (sum-head (λ i. getD (h ∷ hs) i 0) (length hs))
+
+pub getD-listed : (f : ℕ → ℕ) (n i : ℕ) → i < n → getD (listed f n) i 0 ≡ f i
+unfolding listed
+getD-listed f zero i h = absurd (omega arith)
+getD-listed f (suc n) i h =
+    elim (decLt i n) [
+      | yes l ↦
+          let k : i < length (listed f n) = omega (arith, length-listed f n) in
+          List·getD-append (listed f n) (f n ∷ []) 0 i k ∙ getD-listed f n i l
+      | no g ↦
+          let e : i ≡ n = omega arith in
+          getD-at (listed f n) (f n) [] 0 i (length-listed f n ∙ sym e) ∙ ap f (sym e)
+    ]

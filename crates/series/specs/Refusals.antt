@@ -20,7 +20,6 @@ pub data Verdict : Type 0 where
   refused : ℕ → Verdict
 
 infixr 5 _⟶_∣_
-
 -- a condition, its number, and the rows below
 abbrev pub _⟶_∣_ : Bool → ℕ → List Row → List Row
 c ⟶ n ∣ rows = record { holds = c; number = n } ∷ rows

@@ -37,11 +37,20 @@ pub enum Refusal {
 // What the allocating call answers: T with the method's one further number, or a refusal.
 pub enum Answer {
     // The number of blocks T1, 0 where S equals T.
-    Wheel { total: Contracts, blocks: u32 },
+    Wheel {
+        total: Contracts,
+        blocks: u32,
+    },
     // The contracts of round two.
-    ProRata { total: Contracts, remainder: Contracts },
+    ProRata {
+        total: Contracts,
+        remainder: Contracts,
+    },
     // The starting place.
-    Lottery { total: Contracts, start: Place },
+    Lottery {
+        total: Contracts,
+        start: Place,
+    },
     Refused(Refusal),
 }
 
