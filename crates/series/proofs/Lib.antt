@@ -1,3 +1,7 @@
 -- The claims of document 01 about the definitions, and the laws behind them.
 pub mod Starred
 pub mod SumLaws
+pub mod PlaceLaws
+pub mod WheelLaws
+pub mod LotteryLaws
+pub mod AcceptedLaws

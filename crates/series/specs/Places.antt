@@ -1,5 +1,5 @@
 -- The contracts of a list, numbered 1 to T: the places on the wheel.
-use Prim.Native.Nat.{ℕ, zero, suc, _+_}
+use Prim.Native.Nat.{ℕ, zero, suc, _+_, _≤_}
 use mathlib.Core.Bool.{Bool, cond, _&&_}
 use mathlib.Core.List.{List, [], _∷_}
 use lib.Dec.{eqb, ltb, leb}
@@ -9,6 +9,11 @@ use Rattle.series.specs.Sums.{bit, sumBelow}
 unfoldable pub total : List ℕ → ℕ
 total [] = 0
 total (h ∷ hs) = h + total hs
+
+-- p is a place on a wheel of T contracts: 1 to T
+pub record OnWheel (T p : ℕ) : Type 0 where
+  pub low : 1 ≤ p
+  pub high : p ≤ T
 
 -- the place after p: the place after T is 1
 unfoldable pub next : ℕ → ℕ → ℕ

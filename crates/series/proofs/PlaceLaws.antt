@@ -1,0 +1,314 @@
+-- Laws of places and marks, over any list of offsets from a starting place. The wheel and the lottery cite them.
+use Prim.Native.Nat.{ℕ, zero, suc, _+_, _-_, _*_, _≤_, _<_, min}
+use mathlib.Core.Path.{_≡_, refl, sym, ap, ap₂, _∙_}
+use mathlib.Core.Bool.{Bool, true, false, cond, _&&_}
+use mathlib.Core.List.{List, [], _∷_, _++_, map}
+use native.Mathlib.Omega.{arith}
+use native.Mathlib.Nat.{le-refl, zero-add, add-zero, suc-add, add-suc, mul-comm}
+use native.Mathlib.Decide.{decLt, decLe, ℕ-discrete}
+use lib.Dec.{eqb, ltb, leb}
+use lib.ListN.{length, getD, take, length-append}
+use borrow.Author.Tests.{lt-ltb, le-ltb, le-leb, lt-leb, eq-eqb, ne-eqb}
+use Rattle.series.specs.Sums.{sumBelow, bit}
+use Rattle.series.specs.Places.{total, next, steps, run, within, marked, amountsAbove, amounts, OnWheel, overPlaces}
+use Rattle.series.proofs.SumLaws.{sum-cong, sum-add, sum-const, sum-head, sum-mono}
+
+pub next-last : (T : ℕ) → next T T ≡ 1
+unfolding next
+next-last T = rw (eq-eqb T T refl)
+
+pub next-plain : (T p : ℕ) → p < T → next T p ≡ suc p
+unfolding next
+next-plain T p h = let e : p ≡ T → ⊥ = λ q. omega arith in rw (ne-eqb p T e) (omega arith)
+
+pub next-on : (T p : ℕ) → OnWheel T p → OnWheel T (next T p)
+next-on T p h =
+    elim (ℕ-discrete p T)
+    [ yes e ↦ let n : next T p ≡ 1 = ap (next T) e ∙ next-last T in record { low = omega arith; high = omega (arith, h .low, h .high) }
+    | no d ↦ let n : next T p ≡ suc p = next-plain T p (omega (arith, h .high)) in record { low = omega arith; high = omega (arith, h .high) }
+    ]
+
+pub steps-on : (T n p : ℕ) → OnWheel T p → OnWheel T (steps T n p)
+unfolding steps
+steps-on T zero p h = h
+steps-on T (suc n) p h = steps-on T n (next T p) (next-on T p h)
+
+pub steps-next : (T n p : ℕ) → steps T n (next T p) ≡ next T (steps T n p)
+unfolding steps
+steps-next T zero p = refl
+steps-next T (suc n) p = steps-next T n (next T p)
+
+pub steps-suc : (T n p : ℕ) → steps T (suc n) p ≡ next T (steps T n p)
+unfolding steps
+steps-suc T n p = steps-next T n p
+
+pub steps-add : (T a b p : ℕ) → steps T (a + b) p ≡ steps T b (steps T a p)
+unfolding steps
+steps-add T zero b p = ap (λ n. steps T n p) (zero-add b)
+steps-add T (suc a) b p = ap (λ n. steps T n p) (suc-add a b) ∙ steps-add T a b (next T p)
+
+-- without passing T
+pub steps-plain : (T n p : ℕ) → p + n ≤ T → steps T n p ≡ p + n
+unfolding steps
+steps-plain T zero p h = omega arith
+steps-plain T (suc n) p h = ap (steps T n) (next-plain T p (omega arith)) ∙ steps-plain T n (suc p) (omega arith) ∙ omega arith
+
+-- one whole turn
+pub steps-turn : (T p : ℕ) → OnWheel T p → steps T T p ≡ p
+unfolding steps
+steps-turn T p h =
+    let n : ℕ = T - p in
+    let m : ℕ = p - 1 in
+    let whole : T ≡ n + suc m = omega (arith, h .low, h .high) in
+    let up : steps T n p ≡ T = steps-plain T n p (omega (arith, h .high)) ∙ omega (arith, h .high) in
+    ap (λ k. steps T k p) whole ∙ steps-add T n (suc m) p ∙ ap (λ q. steps T m (next T q)) up ∙ ap (steps T m) (next-last T) ∙ steps-plain T m 1 (omega (arith, h .low, h .high)) ∙ omega (arith, h .low)
+
+-- the numbers a, a + 1, .., n of them
+unfoldable pub upFrom : ℕ → ℕ → List ℕ
+upFrom a zero = []
+upFrom a (suc n) = a ∷ upFrom (suc a) n
+
+pub length-upFrom : (a n : ℕ) → length (upFrom a n) ≡ n
+unfolding upFrom
+length-upFrom a zero = refl
+length-upFrom a (suc n) = ap suc (length-upFrom (suc a) n)
+
+-- the places at the offsets os from place p
+unfoldable pub placesAt : ℕ → List ℕ → ℕ → List ℕ
+placesAt T [] p = []
+placesAt T (o ∷ os) p = steps T o p ∷ placesAt T os p
+
+pub places-append : (T : ℕ) (os us : List ℕ) (p : ℕ) → placesAt T (os ++ us) p ≡ placesAt T os p ++ placesAt T us p
+unfolding placesAt
+places-append T [] us p = refl
+places-append T (o ∷ os) us p = ap (steps T o p ∷_) (places-append T os us p)
+
+-- a run is the places at offsets one after the other
+pub run-places : (T n a p : ℕ) → run T n (steps T a p) ≡ placesAt T (upFrom a n) p
+unfolding run upFrom placesAt
+run-places T zero a p = refl
+run-places T (suc n) a p = ap (steps T a p ∷_) (ap (run T n) (sym (steps-suc T a p)) ∙ run-places T n (suc a) p)
+
+pub within-yes : (b e m : ℕ) → b < m → m ≤ e → bit (within b e m) ≡ 1
+unfolding within bit
+within-yes b e m h k = rw (lt-ltb b m h, le-leb m e k)
+
+pub within-low : (b e m : ℕ) → m ≤ b → bit (within b e m) ≡ 0
+unfolding within bit
+within-low b e m h = rw (le-ltb b m h)
+
+pub within-high : (b e m : ℕ) → e < m → bit (within b e m) ≡ 0
+unfolding within bit
+within-high b e m h = elim (decLt b m) [ yes l ↦ rw (lt-ltb b m l, lt-leb m e h) | no g ↦ rw (le-ltb b m (omega arith)) ]
+
+-- marks on b + 1 up to c, and on c + 1 up to e, are the marks on b + 1 up to e
+within-split : (b c e m : ℕ) → b ≤ c → c ≤ e → bit (within b c m) + bit (within c e m) ≡ bit (within b e m)
+within-split b c e m hb he =
+    elim (decLt b m)
+    [ yes bm ↦
+        elim (decLe m c)
+        [ yes mc ↦ omega (arith, within-yes b c m bm mc, within-low c e m mc, within-yes b e m bm (omega arith))
+        | no cm ↦
+            elim (decLe m e)
+            [ yes me ↦ omega (arith, within-high b c m (omega arith), within-yes c e m (omega arith) me, within-yes b e m bm me)
+            | no em ↦ omega (arith, within-high b c m (omega arith), within-high c e m (omega arith), within-high b e m (omega arith))
+            ]
+        ]
+    | no mb ↦ omega (arith, within-low b c m (omega arith), within-low c e m (omega arith), within-low b e m (omega arith))
+    ]
+
+pub marked-split : (b c e : ℕ) (ms : List ℕ) → b ≤ c → c ≤ e → marked b c ms + marked c e ms ≡ marked b e ms
+unfolding marked
+marked-split b c e [] hb he = refl
+marked-split b c e (m ∷ ms) hb he = omega (arith, marked-split b c e ms hb he, within-split b c e m hb he)
+
+pub marked-append : (b e : ℕ) (xs ys : List ℕ) → marked b e (xs ++ ys) ≡ marked b e xs + marked b e ys
+unfolding marked
+marked-append b e [] ys = omega arith
+marked-append b e (x ∷ xs) ys = omega (arith, marked-append b e xs ys)
+
+pub marked-none : (b : ℕ) (ms : List ℕ) → marked b b ms ≡ 0
+marked-none b ms = omega (arith, marked-split b b b ms (le-refl b) (le-refl b))
+
+-- the amounts add up to the marks on all contracts of the list
+amounts-above-total : (b : ℕ) (hs ms : List ℕ) → total (amountsAbove b hs ms) ≡ marked b (b + total hs) ms
+unfolding total amountsAbove
+amounts-above-total b [] ms = sym (marked-none b ms) ∙ ap (λ e. marked b e ms) (omega arith)
+amounts-above-total b (h ∷ hs) ms =
+    ap (marked b (b + h) ms +_) (amounts-above-total (b + h) hs ms) ∙ marked-split b (b + h) (b + h + total hs) ms (omega arith) (omega arith) ∙ ap (λ e. marked b e ms) (omega arith)
+
+pub amounts-total : (hs ms : List ℕ) → total (amounts hs ms) ≡ marked 0 (total hs) ms
+unfolding amounts
+amounts-total hs ms = amounts-above-total 0 hs ms ∙ ap (λ e. marked 0 e ms) (omega arith)
+
+-- every place is one of the contracts 1 to T
+pub marked-all : (T : ℕ) (os : List ℕ) (p : ℕ) → OnWheel T p → marked 0 T (placesAt T os p) ≡ length os
+unfolding marked placesAt
+marked-all T [] p h = refl
+marked-all T (o ∷ os) p h =
+    let on : OnWheel T (steps T o p) = steps-on T o p h in
+    omega (arith, within-yes 0 T (steps T o p) (on .low) (on .high), marked-all T os p h)
+
+-- THE SUM: from any starting place the amounts add up to the number of offsets
+pub places-sum : (hs os : List ℕ) (p : ℕ) → OnWheel (total hs) p → total (amounts hs (placesAt (total hs) os p)) ≡ length os
+places-sum hs os p h = amounts-total hs (placesAt (total hs) os p) ∙ marked-all (total hs) os p h
+
+-- one step round the wheel changes no sum over all places
+over-next : (T : ℕ) (f : ℕ → ℕ) → overPlaces T (λ p. f (next T p)) ≡ overPlaces T f
+unfolding overPlaces sumBelow
+over-next zero f = refl
+over-next (suc t) f =
+    ap₂ _+_ (sum-cong (λ i. f (next (suc t) (suc i))) (λ i. f (suc (suc i))) t (λ i h. ap f (next-plain (suc t) (suc i) (omega arith)))) (ap f (next-last (suc t))) ∙
+    omega (arith, sum-head (λ i. f (suc i)) t)
+
+pub over-steps : (T o : ℕ) (f : ℕ → ℕ) → overPlaces T (λ p. f (steps T o p)) ≡ overPlaces T f
+unfolding steps
+over-steps T zero f = refl
+over-steps T (suc o) f = over-next T (λ p. f (steps T o p)) ∙ over-steps T o f
+
+pub over-cong : (T : ℕ) (f g : ℕ → ℕ) → ((p : ℕ) → OnWheel T p → f p ≡ g p) → overPlaces T f ≡ overPlaces T g
+unfolding overPlaces
+over-cong T f g h = sum-cong (λ i. f (suc i)) (λ i. g (suc i)) T (λ i l. h (suc i) (record { low = omega arith; high = l }))
+
+pub over-const : (T c : ℕ) → overPlaces T (λ _. c) ≡ T * c
+unfolding overPlaces
+over-const T c = sum-const c T
+
+-- of the places 1 to n, those from b + 1 up to e
+within-sum : (b e n : ℕ) → b ≤ e → overPlaces n (λ p. bit (within b e p)) ≡ min e n - min b n
+unfolding overPlaces sumBelow
+within-sum b e zero h = omega arith
+within-sum b e (suc n) h =
+    let before : sumBelow (λ i. bit (within b e (suc i))) n ≡ min e n - min b n = within-sum b e n h in
+    elim (decLt b (suc n))
+    [ yes bn ↦
+        elim (decLe (suc n) e)
+        [ yes ne ↦ omega (arith, within-yes b e (suc n) bn ne) | no en ↦ omega (arith, within-high b e (suc n) (omega arith)) ]
+    | no nb ↦ omega (arith, within-low b e (suc n) (omega arith))
+    ]
+
+-- the contracts before position i, and those up to its last
+pub before : List ℕ → ℕ → ℕ
+before hs i = total (take i hs)
+
+pub upTo : List ℕ → ℕ → ℕ
+upTo hs i = before hs i + getD hs i 0
+
+pub upTo-total : (hs : List ℕ) (i : ℕ) → i < length hs → upTo hs i ≤ total hs
+unfolding upTo before total
+upTo-total [] i h = absurd (omega arith)
+upTo-total (h ∷ hs) zero l = omega arith
+upTo-total (h ∷ hs) (suc i) l = omega (arith, upTo-total hs i (omega arith))
+
+amount-above : (b : ℕ) (hs ms : List ℕ) (i : ℕ) → i < length hs → getD (amountsAbove b hs ms) i 0 ≡ marked (b + before hs i) (b + upTo hs i) ms
+unfolding amountsAbove upTo before total
+amount-above b [] ms i h = absurd (omega arith)
+amount-above b (h ∷ hs) ms zero l = ap₂ (λ x y. marked x y ms) (omega arith) (omega arith)
+amount-above b (h ∷ hs) ms (suc i) l = amount-above (b + h) hs ms i (omega arith) ∙ ap₂ (λ x y. marked x y ms) (omega arith) (omega arith)
+
+-- position i's amount: the marks on its contracts
+pub amount-at : (hs ms : List ℕ) (i : ℕ) → i < length hs → getD (amounts hs ms) i 0 ≡ marked (before hs i) (upTo hs i) ms
+unfolding amounts
+amount-at hs ms i h = amount-above 0 hs ms i h ∙ ap₂ (λ x y. marked x y ms) (zero-add (before hs i)) (zero-add (upTo hs i))
+
+pub length-amounts : (hs ms : List ℕ) → length (amounts hs ms) ≡ length hs
+unfolding amounts amountsAbove
+length-amounts hs ms = above 0 hs
+  where
+    above : (b : ℕ) (xs : List ℕ) → length (amountsAbove b xs ms) ≡ length xs
+    above b [] = refl
+    above b (x ∷ xs) = ap suc (above (b + x) xs)
+
+-- the marks on contracts b + 1 up to e, over all starting places
+marked-over : (T b e : ℕ) (os : List ℕ) → b ≤ e → e ≤ T → overPlaces T (λ p. marked b e (placesAt T os p)) ≡ length os * (e - b)
+unfolding marked placesAt overPlaces
+marked-over T b e [] hb he = sum-const 0 T ∙ omega arith
+marked-over T b e (o ∷ os) hb he =
+    sum-add (λ i. bit (within b e (steps T o (suc i)))) (λ i. marked b e (placesAt T os (suc i))) T ∙
+    omega (arith, over-steps T o (λ p. bit (within b e p)), within-sum b e T hb, marked-over T b e os hb he)
+
+own : (hs : List ℕ) (i : ℕ) → upTo hs i - before hs i ≡ getD hs i 0
+unfolding upTo
+own hs i = omega arith
+
+-- THE SHARE: summed over all starting places, position i gets its shorts times the number of offsets
+pub places-share : (hs os : List ℕ) (i : ℕ) → i < length hs → overPlaces (total hs) (λ p. getD (amounts hs (placesAt (total hs) os p)) i 0) ≡ getD hs i 0 * length os
+unfolding upTo
+places-share hs os i h =
+    over-cong (total hs) (λ p. getD (amounts hs (placesAt (total hs) os p)) i 0) (λ p. marked (before hs i) (upTo hs i) (placesAt (total hs) os p)) (λ p _. amount-at hs (placesAt (total hs) os p) i h) ∙
+    marked-over (total hs) (before hs i) (upTo hs i) os (omega arith) (upTo-total hs i h) ∙
+    ap (length os *_) (own hs i) ∙
+    mul-comm (length os) (getD hs i 0)
+
+-- the offsets os rise from a on and stay below n
+unfoldable pub Rising : ℕ → List ℕ → ℕ → Type 0
+Rising a [] n = a ≤ n
+Rising a (o ∷ os) n = (a ≤ o) × Rising (suc o) os n
+
+pub rising-upFrom : (a k n : ℕ) → a + k ≤ n → Rising a (upFrom a k) n
+unfolding Rising upFrom
+rising-upFrom a zero n h = omega arith
+rising-upFrom a (suc k) n h = (le-refl a, rising-upFrom (suc a) k n (omega arith))
+
+pub rising-append : (a k : ℕ) (os : List ℕ) (n : ℕ) → Rising (a + k) os n → Rising a (upFrom a k ++ os) n
+unfolding upFrom Rising
+rising-append a zero os n h = rw (add-zero a) at h
+rising-append a (suc k) os n h = (le-refl a, rising-append (suc a) k os n (rw (add-suc a k, ← suc-add a k) at h))
+
+pub rising-more : (a c : ℕ) (os : List ℕ) (n : ℕ) → a ≤ c → Rising c os n → Rising a os n
+unfolding Rising
+rising-more a c [] n l h = omega arith
+rising-more a c (o ∷ os) n l h = (omega (arith, h .0), h .1)
+
+rising-end : (a : ℕ) (os : List ℕ) (n : ℕ) → Rising a os n → a ≤ n
+unfolding Rising
+rising-end a [] n h = h
+rising-end a (o ∷ os) n h = omega (arith, h .0, rising-end (suc o) os n (h .1))
+
+sum-longer : (f : ℕ → ℕ) (a c : ℕ) → a ≤ c → sumBelow f a ≤ sumBelow f c
+unfolding sumBelow
+sum-longer f a zero h = let e : a ≡ 0 = omega arith in omega (arith, ap (sumBelow f) e)
+sum-longer f a (suc c) h =
+    elim (decLe a c) [ yes l ↦ omega (arith, sum-longer f a c l) | no g ↦ let e : a ≡ suc c = omega arith in omega (arith, ap (sumBelow f) e) ]
+
+-- offsets 0 to T - 1 from the next place mark what they mark from this one
+around-next : (T p : ℕ) (f : ℕ → ℕ) → OnWheel T p → sumBelow (λ o. f (steps T o (next T p))) T ≡ sumBelow (λ o. f (steps T o p)) T
+unfolding sumBelow steps
+around-next T p f h =
+    let g : ℕ → ℕ = λ o. f (steps T o p) in
+    let turn : f (steps T T p) ≡ f p = ap f (steps-turn T p h) in
+    omega (arith, sum-head g T)
+
+-- from any starting place, offsets 0 to T - 1 pass every place once
+around : (T n : ℕ) (f : ℕ → ℕ) → n < T → sumBelow (λ o. f (steps T o (suc n))) T ≡ overPlaces T f
+unfolding overPlaces
+around T zero f h = sum-cong (λ o. f (steps T o 1)) (λ o. f (suc o)) T (λ o l. ap f (steps-plain T o 1 (omega arith) ∙ omega arith))
+around T (suc n) f h =
+    let e : suc (suc n) ≡ next T (suc n) = sym (next-plain T (suc n) h) in
+    ap (λ q. sumBelow (λ o. f (steps T o q)) T) e ∙ around-next T (suc n) f (record { low = omega arith; high = omega arith }) ∙ around T n f (omega arith)
+
+-- marks at rising offsets are among those at all offsets
+marked-rising : (T b e a p : ℕ) (os : List ℕ) → Rising a os T → sumBelow (λ o. bit (within b e (steps T o p))) a + marked b e (placesAt T os p) ≤ sumBelow (λ o. bit (within b e (steps T o p))) T
+unfolding Rising marked placesAt sumBelow
+marked-rising T b e a p [] h = omega (arith, sum-longer (λ o. bit (within b e (steps T o p))) a T h)
+marked-rising T b e a p (o ∷ os) h =
+    omega (arith, marked-rising T b e (suc o) p os (h .1), sum-longer (λ q. bit (within b e (steps T q p))) a o (h .0))
+
+pub marked-most : (T b e p : ℕ) (os : List ℕ) → OnWheel T p → Rising 0 os T → b ≤ e → e ≤ T → marked b e (placesAt T os p) ≤ e - b
+unfolding sumBelow
+marked-most T b e p os h r hb he =
+    let n : ℕ = p - 1 in
+    let at-p : suc n ≡ p = omega (arith, h .low) in
+    let all : sumBelow (λ o. bit (within b e (steps T o p))) T ≡ overPlaces T (λ q. bit (within b e q)) =
+        rw at-p at (around T n (λ q. bit (within b e q)) (omega (arith, h .low, h .high))) in
+    omega (arith, marked-rising T b e 0 p os r, within-sum b e T hb)
+
+-- AT MOST ITS SHORTS: at rising offsets below T position i gets no more than its shorts
+pub places-most : (hs os : List ℕ) (p i : ℕ) → OnWheel (total hs) p → Rising 0 os (total hs) → i < length hs → getD (amounts hs (placesAt (total hs) os p)) i 0 ≤ getD hs i 0
+unfolding upTo
+places-most hs os p i h r l =
+    omega (arith, amount-at hs (placesAt (total hs) os p) i l, marked-most (total hs) (before hs i) (upTo hs i) p os h r (omega arith) (upTo-total hs i l))
+
+-- NO CONTRACT TWICE: at rising offsets below T contract m + 1 is marked at most once
+pub places-once : (T m p : ℕ) (os : List ℕ) → OnWheel T p → Rising 0 os T → m < T → marked m (suc m) (placesAt T os p) ≤ 1
+places-once T m p os h r l = omega (arith, marked-most T m (suc m) p os h r (omega arith) l)
