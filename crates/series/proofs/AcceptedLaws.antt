@@ -83,11 +83,11 @@ accepted-facts m accounts shorts S draw room h =
     let nine = first-cons _ _ (eight .1) in
     let same : length accounts ≡ length shorts = eqb-true _ _ (not-false _ (one .0)) in
     let sum = positions-total 0 0 accounts shorts same (omega arith) (rw (aside-positions 0 0 accounts shorts) at (split .0)) in
-    record
-    { lengths = same;
+    record {
+      lengths = same;
       few = ltb-false _ _ (two .0);
       some = positive (eqb-false _ _ (three .0));
       total-most = omega arith;
       exercised-some = positive (eqb-false _ _ (eight .0));
-      exercised-most = ltb-false _ _ (nine .0)
+      exercised-most = ltb-false _ _ (nine .0);
     }

@@ -1,4 +1,5 @@
 -- The claims of document 01 about the definitions, and the laws behind them.
+pub mod Demand3
 pub mod Starred
 pub mod SumLaws
 pub mod PlaceLaws

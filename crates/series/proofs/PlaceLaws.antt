@@ -8,10 +8,11 @@ use native.Mathlib.Nat.{le-refl, zero-add, add-zero, suc-add, add-suc, mul-comm}
 use native.Mathlib.Decide.{decLt, decLe, ℕ-discrete}
 use lib.Dec.{eqb, ltb, leb}
 use lib.ListN.{length, getD, take, length-append}
+use lib.Seq.{take-length}
 use borrow.Author.Tests.{lt-ltb, le-ltb, le-leb, lt-leb, eq-eqb, ne-eqb}
 use Rattle.series.specs.Sums.{sumBelow, bit}
-use Rattle.series.specs.Places.{total, next, steps, run, within, marked, amountsAbove, amounts, OnWheel, overPlaces}
-use Rattle.series.proofs.SumLaws.{sum-cong, sum-add, sum-const, sum-head, sum-mono}
+use Rattle.series.specs.Places.{total, next, steps, run, within, marked, before, last, amounts, OnWheel, overPlaces}
+use Rattle.series.proofs.SumLaws.{sum-cong, sum-add, sum-const, sum-head, length-listed, getD-listed, total-listed}
 
 pub next-last : (T : ℕ) → next T T ≡ 1
 unfolding next
@@ -23,9 +24,9 @@ next-plain T p h = let e : p ≡ T → ⊥ = λ q. omega arith in rw (ne-eqb p T
 
 pub next-on : (T p : ℕ) → OnWheel T p → OnWheel T (next T p)
 next-on T p h =
-    elim (ℕ-discrete p T)
-    [ yes e ↦ let n : next T p ≡ 1 = ap (next T) e ∙ next-last T in record { low = omega arith; high = omega (arith, h .low, h .high) }
-    | no d ↦ let n : next T p ≡ suc p = next-plain T p (omega (arith, h .high)) in record { low = omega arith; high = omega (arith, h .high) }
+    elim (ℕ-discrete p T) [
+      | yes e ↦ let n : next T p ≡ 1 = ap (next T) e ∙ next-last T in record { low = omega arith; high = omega (arith, h .low, h .high) }
+      | no d ↦ let n : next T p ≡ suc p = next-plain T p (omega (arith, h .high)) in record { low = omega arith; high = omega (arith, h .high) }
     ]
 
 pub steps-on : (T n p : ℕ) → OnWheel T p → OnWheel T (steps T n p)
@@ -104,17 +105,17 @@ within-high b e m h = elim (decLt b m) [ yes l ↦ rw (lt-ltb b m l, lt-leb m e 
 -- marks on b + 1 up to c, and on c + 1 up to e, are the marks on b + 1 up to e
 within-split : (b c e m : ℕ) → b ≤ c → c ≤ e → bit (within b c m) + bit (within c e m) ≡ bit (within b e m)
 within-split b c e m hb he =
-    elim (decLt b m)
-    [ yes bm ↦
-        elim (decLe m c)
-        [ yes mc ↦ omega (arith, within-yes b c m bm mc, within-low c e m mc, within-yes b e m bm (omega arith))
-        | no cm ↦
-            elim (decLe m e)
-            [ yes me ↦ omega (arith, within-high b c m (omega arith), within-yes c e m (omega arith) me, within-yes b e m bm me)
-            | no em ↦ omega (arith, within-high b c m (omega arith), within-high c e m (omega arith), within-high b e m (omega arith))
-            ]
-        ]
-    | no mb ↦ omega (arith, within-low b c m (omega arith), within-low c e m (omega arith), within-low b e m (omega arith))
+    elim (decLt b m) [
+      | yes bm ↦
+          elim (decLe m c) [
+            | yes mc ↦ omega (arith, within-yes b c m bm mc, within-low c e m mc, within-yes b e m bm (omega arith))
+            | no cm ↦
+                elim (decLe m e) [
+                  | yes me ↦ omega (arith, within-high b c m (omega arith), within-yes c e m (omega arith) me, within-yes b e m bm me)
+                  | no em ↦ omega (arith, within-high b c m (omega arith), within-high c e m (omega arith), within-high b e m (omega arith))
+                ]
+          ]
+      | no mb ↦ omega (arith, within-low b c m (omega arith), within-low c e m (omega arith), within-low b e m (omega arith))
     ]
 
 pub marked-split : (b c e : ℕ) (ms : List ℕ) → b ≤ c → c ≤ e → marked b c ms + marked c e ms ≡ marked b e ms
@@ -130,16 +131,44 @@ marked-append b e (x ∷ xs) ys = omega (arith, marked-append b e xs ys)
 pub marked-none : (b : ℕ) (ms : List ℕ) → marked b b ms ≡ 0
 marked-none b ms = omega (arith, marked-split b b b ms (le-refl b) (le-refl b))
 
+-- the next position begins where this one ends
+pub before-suc : (hs : List ℕ) (i : ℕ) → i < length hs → before hs (suc i) ≡ last hs i
+unfolding before last total
+before-suc [] i h = absurd (omega arith)
+before-suc (h ∷ hs) zero l = omega arith
+before-suc (h ∷ hs) (suc i) l = omega (arith, before-suc hs i (omega arith))
+
+pub before-all : (hs : List ℕ) → before hs (length hs) ≡ total hs
+unfolding before
+before-all hs = ap total (take-length hs)
+
+pub before-mono : (hs : List ℕ) (i n : ℕ) → i ≤ n → n ≤ length hs → before hs i ≤ before hs n
+unfolding last
+before-mono hs i zero h l = let e : i ≡ 0 = omega arith in omega (arith, ap (before hs) e)
+before-mono hs i (suc n) h l =
+    elim (decLe i n) [
+      | yes k ↦ omega (arith, before-mono hs i n k (omega arith), before-suc hs n l)
+      | no g ↦ let e : i ≡ suc n = omega arith in omega (arith, ap (before hs) e)
+    ]
+
+pub last-total : (hs : List ℕ) (i : ℕ) → i < length hs → last hs i ≤ total hs
+last-total hs i h = omega (arith, before-suc hs i h, before-mono hs (suc i) (length hs) h (le-refl (length hs)), before-all hs)
+
+before-zero : (hs : List ℕ) → before hs 0 ≡ 0
+unfolding before total
+before-zero hs = refl
+
 -- the amounts add up to the marks on all contracts of the list
-amounts-above-total : (b : ℕ) (hs ms : List ℕ) → total (amountsAbove b hs ms) ≡ marked b (b + total hs) ms
-unfolding total amountsAbove
-amounts-above-total b [] ms = sym (marked-none b ms) ∙ ap (λ e. marked b e ms) (omega arith)
-amounts-above-total b (h ∷ hs) ms =
-    ap (marked b (b + h) ms +_) (amounts-above-total (b + h) hs ms) ∙ marked-split b (b + h) (b + h + total hs) ms (omega arith) (omega arith) ∙ ap (λ e. marked b e ms) (omega arith)
+amounts-below : (hs ms : List ℕ) (n : ℕ) → n ≤ length hs → sumBelow (λ i. marked (before hs i) (last hs i) ms) n ≡ marked 0 (before hs n) ms
+unfolding sumBelow
+amounts-below hs ms zero h = sym (marked-none 0 ms) ∙ ap (λ e. marked 0 e ms) (sym (before-zero hs))
+amounts-below hs ms (suc n) h =
+    let split : marked 0 (before hs n) ms + marked (before hs n) (last hs n) ms ≡ marked 0 (last hs n) ms = marked-split 0 (before hs n) (last hs n) ms (omega arith) (omega (arith, before-suc hs n h, before-mono hs n (suc n) (omega arith) h)) in
+    omega (arith, amounts-below hs ms n (omega arith), ap (λ e. marked 0 e ms) (before-suc hs n h))
 
 pub amounts-total : (hs ms : List ℕ) → total (amounts hs ms) ≡ marked 0 (total hs) ms
 unfolding amounts
-amounts-total hs ms = amounts-above-total 0 hs ms ∙ ap (λ e. marked 0 e ms) (omega arith)
+amounts-total hs ms = total-listed (λ i. marked (before hs i) (last hs i) ms) (length hs) ∙ amounts-below hs ms (length hs) (le-refl (length hs)) ∙ ap (λ e. marked 0 e ms) (before-all hs)
 
 -- every place is one of the contracts 1 to T
 pub marked-all : (T : ℕ) (os : List ℕ) (p : ℕ) → OnWheel T p → marked 0 T (placesAt T os p) ≡ length os
@@ -180,44 +209,21 @@ unfolding overPlaces sumBelow
 within-sum b e zero h = omega arith
 within-sum b e (suc n) h =
     let before : sumBelow (λ i. bit (within b e (suc i))) n ≡ min e n - min b n = within-sum b e n h in
-    elim (decLt b (suc n))
-    [ yes bn ↦
-        elim (decLe (suc n) e)
-        [ yes ne ↦ omega (arith, within-yes b e (suc n) bn ne) | no en ↦ omega (arith, within-high b e (suc n) (omega arith)) ]
-    | no nb ↦ omega (arith, within-low b e (suc n) (omega arith))
+    elim (decLt b (suc n)) [
+      | yes bn ↦
+          elim (decLe (suc n) e)
+          [ yes ne ↦ omega (arith, within-yes b e (suc n) bn ne) | no en ↦ omega (arith, within-high b e (suc n) (omega arith)) ]
+      | no nb ↦ omega (arith, within-low b e (suc n) (omega arith))
     ]
 
--- the contracts before position i, and those up to its last
-pub before : List ℕ → ℕ → ℕ
-before hs i = total (take i hs)
-
-pub upTo : List ℕ → ℕ → ℕ
-upTo hs i = before hs i + getD hs i 0
-
-pub upTo-total : (hs : List ℕ) (i : ℕ) → i < length hs → upTo hs i ≤ total hs
-unfolding upTo before total
-upTo-total [] i h = absurd (omega arith)
-upTo-total (h ∷ hs) zero l = omega arith
-upTo-total (h ∷ hs) (suc i) l = omega (arith, upTo-total hs i (omega arith))
-
-amount-above : (b : ℕ) (hs ms : List ℕ) (i : ℕ) → i < length hs → getD (amountsAbove b hs ms) i 0 ≡ marked (b + before hs i) (b + upTo hs i) ms
-unfolding amountsAbove upTo before total
-amount-above b [] ms i h = absurd (omega arith)
-amount-above b (h ∷ hs) ms zero l = ap₂ (λ x y. marked x y ms) (omega arith) (omega arith)
-amount-above b (h ∷ hs) ms (suc i) l = amount-above (b + h) hs ms i (omega arith) ∙ ap₂ (λ x y. marked x y ms) (omega arith) (omega arith)
-
 -- position i's amount: the marks on its contracts
-pub amount-at : (hs ms : List ℕ) (i : ℕ) → i < length hs → getD (amounts hs ms) i 0 ≡ marked (before hs i) (upTo hs i) ms
+pub amount-at : (hs ms : List ℕ) (i : ℕ) → i < length hs → getD (amounts hs ms) i 0 ≡ marked (before hs i) (last hs i) ms
 unfolding amounts
-amount-at hs ms i h = amount-above 0 hs ms i h ∙ ap₂ (λ x y. marked x y ms) (zero-add (before hs i)) (zero-add (upTo hs i))
+amount-at hs ms i h = getD-listed (λ i. marked (before hs i) (last hs i) ms) (length hs) i h
 
 pub length-amounts : (hs ms : List ℕ) → length (amounts hs ms) ≡ length hs
-unfolding amounts amountsAbove
-length-amounts hs ms = above 0 hs
-  where
-    above : (b : ℕ) (xs : List ℕ) → length (amountsAbove b xs ms) ≡ length xs
-    above b [] = refl
-    above b (x ∷ xs) = ap suc (above (b + x) xs)
+unfolding amounts
+length-amounts hs ms = length-listed (λ i. marked (before hs i) (last hs i) ms) (length hs)
 
 -- the marks on contracts b + 1 up to e, over all starting places
 marked-over : (T b e : ℕ) (os : List ℕ) → b ≤ e → e ≤ T → overPlaces T (λ p. marked b e (placesAt T os p)) ≡ length os * (e - b)
@@ -227,16 +233,16 @@ marked-over T b e (o ∷ os) hb he =
     sum-add (λ i. bit (within b e (steps T o (suc i)))) (λ i. marked b e (placesAt T os (suc i))) T ∙
     omega (arith, over-steps T o (λ p. bit (within b e p)), within-sum b e T hb, marked-over T b e os hb he)
 
-own : (hs : List ℕ) (i : ℕ) → upTo hs i - before hs i ≡ getD hs i 0
-unfolding upTo
+own : (hs : List ℕ) (i : ℕ) → last hs i - before hs i ≡ getD hs i 0
+unfolding last
 own hs i = omega arith
 
 -- THE SHARE: summed over all starting places, position i gets its shorts times the number of offsets
 pub places-share : (hs os : List ℕ) (i : ℕ) → i < length hs → overPlaces (total hs) (λ p. getD (amounts hs (placesAt (total hs) os p)) i 0) ≡ getD hs i 0 * length os
-unfolding upTo
+unfolding last
 places-share hs os i h =
-    over-cong (total hs) (λ p. getD (amounts hs (placesAt (total hs) os p)) i 0) (λ p. marked (before hs i) (upTo hs i) (placesAt (total hs) os p)) (λ p _. amount-at hs (placesAt (total hs) os p) i h) ∙
-    marked-over (total hs) (before hs i) (upTo hs i) os (omega arith) (upTo-total hs i h) ∙
+    over-cong (total hs) (λ p. getD (amounts hs (placesAt (total hs) os p)) i 0) (λ p. marked (before hs i) (last hs i) (placesAt (total hs) os p)) (λ p _. amount-at hs (placesAt (total hs) os p) i h) ∙
+    marked-over (total hs) (before hs i) (last hs i) os (omega arith) (last-total hs i h) ∙
     ap (length os *_) (own hs i) ∙
     mul-comm (length os) (getD hs i 0)
 
@@ -300,14 +306,14 @@ marked-most T b e p os h r hb he =
     let n : ℕ = p - 1 in
     let at-p : suc n ≡ p = omega (arith, h .low) in
     let all : sumBelow (λ o. bit (within b e (steps T o p))) T ≡ overPlaces T (λ q. bit (within b e q)) =
-        rw at-p at (around T n (λ q. bit (within b e q)) (omega (arith, h .low, h .high))) in
+    rw at-p at (around T n (λ q. bit (within b e q)) (omega (arith, h .low, h .high))) in
     omega (arith, marked-rising T b e 0 p os r, within-sum b e T hb)
 
 -- AT MOST ITS SHORTS: at rising offsets below T position i gets no more than its shorts
 pub places-most : (hs os : List ℕ) (p i : ℕ) → OnWheel (total hs) p → Rising 0 os (total hs) → i < length hs → getD (amounts hs (placesAt (total hs) os p)) i 0 ≤ getD hs i 0
-unfolding upTo
+unfolding last
 places-most hs os p i h r l =
-    omega (arith, amount-at hs (placesAt (total hs) os p) i l, marked-most (total hs) (before hs i) (upTo hs i) p os h r (omega arith) (upTo-total hs i l))
+    omega (arith, amount-at hs (placesAt (total hs) os p) i l, marked-most (total hs) (before hs i) (last hs i) p os h r (omega arith) (last-total hs i l))
 
 -- NO CONTRACT TWICE: at rising offsets below T contract m + 1 is marked at most once
 pub places-once : (T m p : ℕ) (os : List ℕ) → OnWheel T p → Rising 0 os T → m < T → marked m (suc m) (placesAt T os p) ≤ 1

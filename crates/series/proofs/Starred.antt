@@ -6,7 +6,7 @@ use mathlib.Core.List.{List, [], _∷_, _++_, map}
 use lib.Dec.{eqb, ltb, leb}
 use lib.ListN.{length, getD, replicate}
 use Rattle.series.specs.Sums.{sumBelow, bit, countBelow, listed}
-use Rattle.series.specs.Places.{total, next, steps, run, within, marked, amountsAbove, amounts}
+use Rattle.series.specs.Places.{total, next, steps, run, within, marked, before, last, amounts}
 use Rattle.series.specs.Wheel.{blocks, interval, marks, wheelMarks, wheel, blocksUsed}
 use Rattle.series.specs.ProRata.{percentage, assignmentAmount, wholePart, decimalPart, roundOne, decimals, remainder, larger, equal, turn, rank, roundTwo, proRata}
 use Rattle.series.specs.Lottery.{startingPlace, lottery}
@@ -33,7 +33,7 @@ series m hs S draw = record { method = m; shorts = hs; exercised = S; draw = dra
 
 -- the line `unfolding` names every definition that the call's answer and output compute with
 pub resultOf : Series → Result
-unfolding sumBelow bit countBelow listed total next steps run within marked amountsAbove amounts blocks interval marks wheelMarks wheel blocksUsed percentage assignmentAmount wholePart decimalPart roundOne decimals remainder larger equal turn rank roundTwo proRata startingPlace lottery first lengthRows positionRows exercisedRows outside drawRows rows verdict assigned further answerTo outputTo answer output
+unfolding sumBelow bit countBelow listed total next steps run within marked before last amounts blocks interval marks wheelMarks wheel blocksUsed percentage assignmentAmount wholePart decimalPart roundOne decimals remainder larger equal turn rank roundTwo proRata startingPlace lottery first lengthRows positionRows exercisedRows outside drawRows rows verdict assigned further answerTo outputTo answer output
 resultOf s =
     let accounts : List ℕ = listed suc (length (s .shorts)) in
     let old : List ℕ = replicate (suc (length (s .shorts))) 7 in

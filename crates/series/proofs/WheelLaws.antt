@@ -61,13 +61,13 @@ blocks-are I S hi hs = block-count I S (blocks I S) hi hs refl (mul-div-le (S + 
 -- the last mark stays below T, in millionths: rounding up at the sixth place adds less than one contract in ONE blocks
 span-fits : (T I S n q : ℕ) → I * n < S → S ≤ I * n + I → S < T → n < ONE → 2 * suc n * q ≤ 2 * (T * ONE) + suc n → n * (I * ONE + (q - I * ONE)) + (S - I * n) * ONE < suc T * ONE
 span-fits T I S n q low high less few near =
-    elim (decLe q (I * ONE))
-    [ yes z ↦
-        let e : n * (I * ONE + (q - I * ONE)) ≡ n * (I * ONE) = ap (n *_) (omega arith) in
-        omega arith
-    | no g ↦
-        let e : n * (I * ONE + (q - I * ONE)) ≡ n * q = ap (n *_) (omega arith) in
-        omega arith
+    elim (decLe q (I * ONE)) [
+      | yes z ↦
+          let e : n * (I * ONE + (q - I * ONE)) ≡ n * (I * ONE) = ap (n *_) (omega arith) in
+          omega arith
+      | no g ↦
+          let e : n * (I * ONE + (q - I * ONE)) ≡ n * q = ap (n *_) (omega arith) in
+          omega arith
     ]
 
 zero-sum : (x y z : ℕ) → x + y < z → 0 + x + y < z
@@ -113,31 +113,31 @@ wheel-part I hs S p h =
 module _ (I : ℕ) (hs : List ℕ) (S : ℕ) (hi : 0 < I) (some : 0 < S) (most : S ≤ total hs) where
   pub wheel-sum : (p : ℕ) → OnWheel (total hs) p → total (wheel I hs S p) ≡ S
   wheel-sum p on =
-      elim (decLt S (total hs))
-      [ yes l ↦ ap total (wheel-part I hs S p l) ∙ places-sum hs (wheelOffsets I (total hs) S) p on ∙ length-wheelOffsets I (total hs) S hi some
-      | no g ↦ let e : S ≡ total hs = omega arith in ap total (wheel-whole I hs S p e) ∙ sym e
+      elim (decLt S (total hs)) [
+        | yes l ↦ ap total (wheel-part I hs S p l) ∙ places-sum hs (wheelOffsets I (total hs) S) p on ∙ length-wheelOffsets I (total hs) S hi some
+        | no g ↦ let e : S ≡ total hs = omega arith in ap total (wheel-whole I hs S p e) ∙ sym e
       ]
 
   pub wheel-most : blocks I S ≤ ONE → (p : ℕ) → OnWheel (total hs) p → (i : ℕ) → i < length hs → getD (wheel I hs S p) i 0 ≤ getD hs i 0
   wheel-most few p on i h =
-      elim (decLt S (total hs))
-      [ yes l ↦ rw (wheel-part I hs S p l) (places-most hs (wheelOffsets I (total hs) S) p i on (rising-wheelOffsets I (total hs) S hi some l few) h)
-      | no g ↦ rw (wheel-whole I hs S p (omega arith)) (le-refl (getD hs i 0))
+      elim (decLt S (total hs)) [
+        | yes l ↦ rw (wheel-part I hs S p l) (places-most hs (wheelOffsets I (total hs) S) p i on (rising-wheelOffsets I (total hs) S hi some l few) h)
+        | no g ↦ rw (wheel-whole I hs S p (omega arith)) (le-refl (getD hs i 0))
       ]
 
   pub wheel-share : (i : ℕ) → i < length hs → overPlaces (total hs) (λ p. getD (wheel I hs S p) i 0) ≡ getD hs i 0 * S
   wheel-share i h =
-      elim (decLt S (total hs))
-      [ yes l ↦
-          over-cong (total hs) (λ p. getD (wheel I hs S p) i 0) (λ p. getD (amounts hs (placesAt (total hs) (wheelOffsets I (total hs) S) p)) i 0) (λ p _. ap (λ xs. getD xs i 0) (wheel-part I hs S p l)) ∙
-          places-share hs (wheelOffsets I (total hs) S) i h ∙
-          ap (getD hs i 0 *_) (length-wheelOffsets I (total hs) S hi some)
-      | no g ↦
-          let e : S ≡ total hs = omega arith in
-          over-cong (total hs) (λ p. getD (wheel I hs S p) i 0) (λ _. getD hs i 0) (λ p _. ap (λ xs. getD xs i 0) (wheel-whole I hs S p e)) ∙
-          over-const (total hs) (getD hs i 0) ∙
-          mul-comm (total hs) (getD hs i 0) ∙
-          ap (getD hs i 0 *_) (sym e)
+      elim (decLt S (total hs)) [
+        | yes l ↦
+            over-cong (total hs) (λ p. getD (wheel I hs S p) i 0) (λ p. getD (amounts hs (placesAt (total hs) (wheelOffsets I (total hs) S) p)) i 0) (λ p _. ap (λ xs. getD xs i 0) (wheel-part I hs S p l)) ∙
+            places-share hs (wheelOffsets I (total hs) S) i h ∙
+            ap (getD hs i 0 *_) (length-wheelOffsets I (total hs) S hi some)
+        | no g ↦
+            let e : S ≡ total hs = omega arith in
+            over-cong (total hs) (λ p. getD (wheel I hs S p) i 0) (λ _. getD hs i 0) (λ p _. ap (λ xs. getD xs i 0) (wheel-whole I hs S p e)) ∙
+            over-const (total hs) (getD hs i 0) ∙
+            mul-comm (total hs) (getD hs i 0) ∙
+            ap (getD hs i 0 *_) (sym e)
       ]
 
 pub wheel-once : (I T S : ℕ) → 0 < I → 0 < S → S < T → blocks I S ≤ ONE → (p m : ℕ) → OnWheel T p → m < T → marked m (suc m) (wheelMarks I T S p) ≤ 1

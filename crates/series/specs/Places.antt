@@ -3,7 +3,8 @@ use Prim.Native.Nat.{ℕ, zero, suc, _+_, _≤_}
 use mathlib.Core.Bool.{Bool, cond, _&&_}
 use mathlib.Core.List.{List, [], _∷_}
 use lib.Dec.{eqb, ltb, leb}
-use Rattle.series.specs.Sums.{bit, sumBelow}
+use lib.ListN.{length, getD, take}
+use Rattle.series.specs.Sums.{bit, sumBelow, listed}
 
 -- T: the sum of all shorts
 unfoldable pub total : List ℕ → ℕ
@@ -38,14 +39,17 @@ unfoldable pub marked : ℕ → ℕ → List ℕ → ℕ
 marked b e [] = 0
 marked b e (m ∷ ms) = bit (within b e m) + marked b e ms
 
--- for each position the marks on its contracts, the first position beginning one above b
-unfoldable pub amountsAbove : ℕ → List ℕ → List ℕ → List ℕ
-amountsAbove b [] ms = []
-amountsAbove b (h ∷ hs) ms = marked b (b + h) ms ∷ amountsAbove (b + h) hs ms
+-- how many contracts stand before those of position i
+unfoldable pub before : List ℕ → ℕ → ℕ
+before hs i = total (take i hs)
 
--- for each position the marks on its contracts: the first position has 1 up to its shorts
+-- the last contract of position i: the first position has 1 up to its shorts, each next one begins one above the last number before it
+unfoldable pub last : List ℕ → ℕ → ℕ
+last hs i = before hs i + getD hs i 0
+
+-- for each position the marks on its contracts
 unfoldable pub amounts : List ℕ → List ℕ → List ℕ
-amounts hs ms = amountsAbove 0 hs ms
+amounts hs ms = listed (λ i. marked (before hs i) (last hs i) ms) (length hs)
 
 -- the sum of f over the places 1 to T
 unfoldable pub overPlaces : ℕ → (ℕ → ℕ) → ℕ
