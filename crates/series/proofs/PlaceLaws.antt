@@ -1,5 +1,5 @@
 -- Laws of places and marks, over any list of offsets from a starting place. The wheel and the lottery cite them.
-use Prim.Native.Nat.{ℕ, zero, suc, _+_, _-_, _*_, _≤_, _<_, min}
+use Prim.Native.Nat.{ℕ, zero, suc, _+_, _-_, _*_, _≤_, _<_, min, max}
 use mathlib.Core.Path.{_≡_, refl, sym, ap, ap₂, _∙_}
 use mathlib.Core.Bool.{Bool, true, false, cond, _&&_}
 use mathlib.Core.List.{List, [], _∷_, _++_, map}
@@ -102,6 +102,40 @@ pub within-high : (b e m : ℕ) → e < m → bit (within b e m) ≡ 0
 unfolding within bit
 within-high b e m h = elim (decLt b m) [ yes l ↦ rw (lt-ltb b m l, lt-leb m e h) | no g ↦ rw (le-ltb b m (omega arith)) ]
 
+-- a run of a + n places is one of a, and then one of n
+pub run-add : (T a n p : ℕ) → run T (a + n) p ≡ run T a p ++ run T n (steps T a p)
+unfolding run steps
+run-add T zero n p = ap (λ k. run T k p) (zero-add n)
+run-add T (suc a) n p = ap (λ k. run T k p) (suc-add a n) ∙ ap (p ∷_) (run-add T a n (next T p))
+
+-- without passing T
+pub run-plain : (T n q : ℕ) → q + n ≤ T → run T n (suc q) ≡ upFrom (suc q) n
+unfolding run upFrom
+run-plain T zero q h = refl
+run-plain T (suc zero) q h = refl
+run-plain T (suc (suc n)) q h =
+    ap (suc q ∷_) (ap (run T (suc n)) (next-plain T (suc q) (omega arith)) ∙ run-plain T (suc n) (suc q) (omega arith))
+
+-- T ends the list, and 1 comes after it
+pub steps-top : (T q : ℕ) → q < T → steps T (T - q) (suc q) ≡ 1
+steps-top T q h =
+    let n : ℕ = T - suc q in
+    let e : T - q ≡ suc n = omega arith in
+    let up : steps T n (suc q) ≡ T = steps-plain T n (suc q) (omega arith) ∙ omega arith in
+    ap (λ k. steps T k (suc q)) e ∙ steps-suc T n (suc q) ∙ ap (next T) up ∙ next-last T
+
+pub steps-past : (T n q : ℕ) → q < T → T ≤ q + n → q + n - T < T → steps T n (suc q) ≡ suc (q + n - T)
+steps-past T n q h l less =
+    let m : ℕ = q + n - T in
+    let e : n ≡ (T - q) + m = omega arith in
+    ap (λ k. steps T k (suc q)) e ∙ steps-add T (T - q) m (suc q) ∙ ap (steps T m) (steps-top T q h) ∙ steps-plain T m 1 (omega arith) ∙ omega arith
+
+pub run-past : (T n q : ℕ) → q < T → T ≤ q + n → q + n - T ≤ T → run T n (suc q) ≡ upFrom (suc q) (T - q) ++ upFrom 1 (q + n - T)
+run-past T n q h l less =
+    let m : ℕ = q + n - T in
+    let e : n ≡ (T - q) + m = omega arith in
+    ap (λ k. run T k (suc q)) e ∙ run-add T (T - q) m (suc q) ∙ ap₂ _++_ (run-plain T (T - q) q (omega arith)) (ap (run T m) (steps-top T q h) ∙ run-plain T m 0 (omega arith))
+
 -- marks on b + 1 up to c, and on c + 1 up to e, are the marks on b + 1 up to e
 within-split : (b c e m : ℕ) → b ≤ c → c ≤ e → bit (within b c m) + bit (within c e m) ≡ bit (within b e m)
 within-split b c e m hb he =
@@ -131,6 +165,19 @@ marked-append b e (x ∷ xs) ys = omega (arith, marked-append b e xs ys)
 pub marked-none : (b : ℕ) (ms : List ℕ) → marked b b ms ≡ 0
 marked-none b ms = omega (arith, marked-split b b b ms (le-refl b) (le-refl b))
 
+-- how many of the places q + 1 up to q + n are contracts b + 1 up to e
+pub marked-upFrom : (b e q n : ℕ) → b ≤ e → marked b e (upFrom (suc q) n) ≡ min e (q + n) - max b q
+unfolding marked upFrom
+marked-upFrom b e q zero h = omega arith
+marked-upFrom b e q (suc n) h =
+    let after : marked b e (upFrom (suc (suc q)) n) ≡ min e (suc q + n) - max b (suc q) = marked-upFrom b e (suc q) n h in
+    elim (decLt b (suc q))
+    [ yes bq ↦
+        elim (decLe (suc q) e)
+        [ yes qe ↦ omega (arith, within-yes b e (suc q) bq qe) | no eq ↦ omega (arith, within-high b e (suc q) (omega arith)) ]
+    | no qb ↦ omega (arith, within-low b e (suc q) (omega arith))
+    ]
+
 -- the next position begins where this one ends
 pub before-suc : (hs : List ℕ) (i : ℕ) → i < length hs → before hs (suc i) ≡ last hs i
 unfolding before last total
@@ -154,7 +201,7 @@ before-mono hs i (suc n) h l =
 pub last-total : (hs : List ℕ) (i : ℕ) → i < length hs → last hs i ≤ total hs
 last-total hs i h = omega (arith, before-suc hs i h, before-mono hs (suc i) (length hs) h (le-refl (length hs)), before-all hs)
 
-before-zero : (hs : List ℕ) → before hs 0 ≡ 0
+pub before-zero : (hs : List ℕ) → before hs 0 ≡ 0
 unfolding before total
 before-zero hs = refl
 

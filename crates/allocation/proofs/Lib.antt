@@ -1,0 +1,3 @@
+mod StretchLaws
+mod PartLaws
+mod RunLaws

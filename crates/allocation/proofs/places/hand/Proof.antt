@@ -1,0 +1,152 @@
+use borrow.Author.Needs.{needs}
+use Prim.Native.Nat.{ℕ, _+_, _-_, _≤_, _<_}
+use mathlib.Core.Path.{_∙_}
+use native.Mathlib.Nat.{le-refl}
+use native.Mathlib.Omega.{arith}
+use lib.ListN.{length, getD, set, length-set}
+use Rattle.allocation.proofs.StretchLaws.{Walk, walk-start, walk-next, walk-inside, walk-past, Growing, growing-start, growing-next, grown-inside, grown-past}
+use Rattle.allocation.proofs.places.hand.Statement.{statement}
+use Rattle.allocation.proofs.places.hand.Tie as tie
+use Rattle.allocation.proofs.places.hand.Reads as reads
+use Rattle.allocation.proofs.places.hand.Lts as lts
+
+abbrev Inv-loop : tie.InvT-loop
+Inv-loop shorts amounts₀ at₀ skipped₀ left₀ amounts i skipped left =
+    Walk shorts skipped₀ (skipped₀ + left₀) i skipped left × (left ≤ left₀) × Growing shorts amounts₀ amounts skipped₀ (skipped₀ + left₀) i
+
+abbrev μ-loop : tie.MeasureT-loop
+μ-loop shorts amounts₀ at₀ skipped₀ left₀ amounts i skipped left = length shorts - i
+
+-- src/places.rt:25:5
+loop-holds : tie.Need-loop-holds Inv-loop μ-loop
+loop-holds c =
+    let a = c .args in
+    (walk-start (a .shorts .now) (a .passed .0) (a .count .0) (c .pre .1), le-refl (a .count .0), growing-start (a .shorts .now) (a .amounts .now) (a .passed .0) (a .passed .0 + a .count .0))
+
+-- src/places.rt:26:20
+mul-free : tie.Need-mul-free Inv-loop μ-loop
+mul-free c = search needs
+
+-- src/places.rt:26:20
+shared-slice-read-free : tie.Need-shared-slice-read-free Inv-loop μ-loop
+shared-slice-read-free c = search needs
+
+-- src/places.rt:26:20
+sub-free : tie.Need-sub-free Inv-loop μ-loop
+sub-free c = search needs
+
+-- src/places.rt:28:13
+mul-amounts : tie.Need-mul-amounts Inv-loop μ-loop
+mul-amounts c = search needs
+
+-- src/places.rt:28:13
+slice-read-amounts : tie.Need-slice-read-amounts Inv-loop μ-loop
+slice-read-amounts c =
+    let seen = c .before .before .before .before in
+    omega (arith, seen .before .pre .0 .lengths, seen .loop .inv .2 .same-length)
+
+-- src/places.rt:28:13
+add-amounts : tie.Need-add-amounts Inv-loop μ-loop
+add-amounts c =
+    let seen = c .before .before .before .before in
+    omega (arith, seen .loop .inv .2 .rest (seen .loop .at) (le-refl (seen .loop .at)), seen .before .pre .0 .room (seen .loop .at) (c .before .before .before .loop-test .taken))
+
+-- src/places.rt:28:13
+slice-write-amounts : tie.Need-slice-write-amounts Inv-loop μ-loop
+slice-write-amounts c =
+    let seen = c .before .before .before .before in
+    omega (arith, seen .before .pre .0 .lengths, seen .loop .inv .2 .same-length)
+
+-- src/places.rt:31:35
+add-t15 : tie.Need-add-t15 Inv-loop μ-loop
+add-t15 c = omega (arith, c .before .before .shared-slice-known .given (c .before .before .before .before .loop .at))
+
+-- src/places.rt:29:13
+same-length : tie.Need-same-length Inv-loop μ-loop
+same-length c = simp length-set (c .before .before .before .before .loop .inv .2 .same-length)
+
+-- src/places.rt:29:13
+returns : tie.Need-returns Inv-loop μ-loop
+returns c =
+    let seen = c .before .before .before .before in
+    let a = seen .before .args in
+    let h = c .before .before .before .loop-test .taken in
+    let o : seen .loop .at < length (seen .loop .amounts) = omega (arith, seen .before .pre .0 .lengths, seen .loop .inv .2 .same-length) in
+    (walk-inside (a .shorts .now) (a .passed .0) (a .passed .0 + a .count .0) (seen .loop .at) (seen .loop .skipped) (seen .loop .left) (seen .loop .inv .0) h (c .before .if1 .taken), grown-inside (a .shorts .now) (a .amounts .now) (seen .loop .amounts) (a .passed .0) (a .passed .0 + a .count .0) (seen .loop .at) (seen .loop .skipped) (seen .loop .left) (seen .loop .inv .0) (seen .loop .inv .2) h o (c .before .if1 .taken))
+
+-- src/places.rt:35:9
+mul-amounts-2 : tie.Need-mul-amounts-2 Inv-loop μ-loop
+mul-amounts-2 c = search needs
+
+-- src/places.rt:35:9
+slice-read-amounts-2 : tie.Need-slice-read-amounts-2 Inv-loop μ-loop
+slice-read-amounts-2 c =
+    let seen = c .before .before .before .before in
+    omega (arith, seen .before .pre .0 .lengths, seen .loop .inv .2 .same-length)
+
+-- src/places.rt:35:9
+add-amounts-2 : tie.Need-add-amounts-2 Inv-loop μ-loop
+add-amounts-2 c =
+    let seen = c .before .before .before .before in
+    omega (arith, seen .loop .inv .2 .rest (seen .loop .at) (le-refl (seen .loop .at)), seen .before .pre .0 .room (seen .loop .at) (c .before .before .before .loop-test .taken))
+
+-- src/places.rt:35:9
+slice-write-amounts-2 : tie.Need-slice-write-amounts-2 Inv-loop μ-loop
+slice-write-amounts-2 c =
+    let seen = c .before .before .before .before in
+    omega (arith, seen .before .pre .0 .lengths, seen .loop .inv .2 .same-length)
+
+-- src/places.rt:38:9
+add-at : tie.Need-add-at Inv-loop μ-loop
+add-at c = search needs
+
+-- src/places.rt:25:5
+loop-less : tie.Need-loop-less Inv-loop μ-loop
+loop-less c = search needs
+
+-- src/places.rt:25:5
+loop-again : tie.Need-loop-again Inv-loop μ-loop
+loop-again c =
+    let seen = c .before .before .before .before in
+    let a = seen .before .args in
+    let h = c .before .before .before .loop-test .taken in
+    let o : seen .loop .at < length (seen .loop .amounts) = omega (arith, seen .before .pre .0 .lengths, seen .loop .inv .2 .same-length) in
+    (walk-next (a .shorts .now) (a .passed .0) (a .passed .0 + a .count .0) (seen .loop .at) (seen .loop .skipped) (seen .loop .left) (seen .loop .inv .0) h (c .before .if1 .left), omega arith, growing-next (a .shorts .now) (a .amounts .now) (seen .loop .amounts) (a .passed .0) (a .passed .0 + a .count .0) (seen .loop .at) (seen .loop .skipped) (seen .loop .left) (seen .loop .inv .0) (seen .loop .inv .2) h o (c .before .if1 .left))
+
+-- src/places.rt:16:1
+same-length-2 : tie.Need-same-length-2 Inv-loop μ-loop
+same-length-2 c = c .before .loop .inv .2 .same-length
+
+-- src/places.rt:16:1
+returns-2 : tie.Need-returns-2 Inv-loop μ-loop
+returns-2 c =
+    let seen = c .before in
+    let a = seen .before .args in
+    (walk-past (a .shorts .now) (a .passed .0) (a .passed .0 + a .count .0) (seen .loop .at) (seen .loop .skipped) (seen .loop .left) (seen .loop .inv .0) (c .loop-test .left), grown-past (a .shorts .now) (a .amounts .now) (seen .loop .amounts) (a .passed .0) (a .passed .0 + a .count .0) (seen .loop .at) (seen .loop .inv .2) (c .loop-test .left))
+
+pub hand-spec : {M : Type 1} → statement M
+hand-spec =
+    tie.close
+    (tie.spec
+    Inv-loop
+    μ-loop
+    loop-holds
+    mul-free
+    shared-slice-read-free
+    sub-free
+    mul-amounts
+    slice-read-amounts
+    add-amounts
+    slice-write-amounts
+    add-t15
+    same-length
+    returns
+    mul-amounts-2
+    slice-read-amounts-2
+    add-amounts-2
+    slice-write-amounts-2
+    add-at
+    loop-less
+    loop-again
+    same-length-2
+    returns-2)

@@ -1,0 +1,80 @@
+use borrow.Author.Needs.{needs}
+use Prim.Native.Nat.{ℕ, _+_, _-_, _≤_}
+use native.Mathlib.Nat.{le-refl}
+use native.Mathlib.Omega.{arith}
+use lib.ListN.{length, length-set}
+use Rattle.allocation.proofs.StretchLaws.{Walk, walk-start, walk-next, walk-inside, walk-past}
+use Rattle.allocation.proofs.places.pass.Statement.{statement}
+use Rattle.allocation.proofs.places.pass.Tie as tie
+use Rattle.allocation.proofs.places.pass.Reads as reads
+use Rattle.allocation.proofs.places.pass.Lts as lts
+
+abbrev Inv-loop : tie.InvT-loop
+Inv-loop shorts at₀ skipped₀ left₀ i skipped left = Walk shorts skipped₀ (skipped₀ + left₀) i skipped left × (left ≤ left₀)
+
+abbrev μ-loop : tie.MeasureT-loop
+μ-loop shorts at₀ skipped₀ left₀ i skipped left = length shorts - i
+
+-- src/places.rt:55:5
+loop-holds : tie.Need-loop-holds Inv-loop μ-loop
+loop-holds c = (walk-start (c .args .shorts .now) (c .args .passed .0) (c .args .count .0) (c .pre), le-refl (c .args .count .0))
+
+-- src/places.rt:56:20
+mul-free : tie.Need-mul-free Inv-loop μ-loop
+mul-free c = search needs
+
+-- src/places.rt:56:20
+shared-slice-read-free : tie.Need-shared-slice-read-free Inv-loop μ-loop
+shared-slice-read-free c = search needs
+
+-- src/places.rt:56:20
+sub-free : tie.Need-sub-free Inv-loop μ-loop
+sub-free c = search needs
+
+-- src/places.rt:60:35
+add-t12 : tie.Need-add-t12 Inv-loop μ-loop
+add-t12 c = omega (arith, c .before .shared-slice-known .given (c .before .before .before .loop .at))
+
+-- src/places.rt:58:13
+returns : tie.Need-returns Inv-loop μ-loop
+returns c = search needs
+
+-- src/places.rt:66:9
+add-at : tie.Need-add-at Inv-loop μ-loop
+add-at c = search needs
+
+-- src/places.rt:55:5
+loop-less : tie.Need-loop-less Inv-loop μ-loop
+loop-less c = search needs
+
+-- src/places.rt:55:5
+loop-again : tie.Need-loop-again Inv-loop μ-loop
+loop-again c =
+    let seen = c .before .before .before in
+    let inv = seen .loop .inv in (
+      walk-next (seen .before .args .shorts .now) (seen .before .args .passed .0) (seen .before .args .passed .0 + seen .before .args .count .0) (seen .loop .at) (seen .loop .skipped) (seen .loop .left) (inv .0) (c .before .before .loop-test .taken) (c .if1 .left),
+      omega arith,
+    )
+
+-- src/places.rt:48:1
+returns-2 : tie.Need-returns-2 Inv-loop μ-loop
+returns-2 c =
+    let seen = c .before in
+    walk-past (seen .before .args .shorts .now) (seen .before .args .passed .0) (seen .before .args .passed .0 + seen .before .args .count .0) (seen .loop .at) (seen .loop .skipped) (seen .loop .left) (seen .loop .inv .0) (c .loop-test .left)
+
+pub pass-spec : {M : Type 1} → statement M
+pass-spec =
+    tie.close
+    (tie.spec
+    Inv-loop
+    μ-loop
+    loop-holds
+    mul-free
+    shared-slice-read-free
+    sub-free
+    add-t12
+    returns
+    add-at
+    loop-less
+    loop-again
+    returns-2)

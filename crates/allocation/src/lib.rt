@@ -1,0 +1,2 @@
+// The allocating call, and private modules for its parts.
+mod places;

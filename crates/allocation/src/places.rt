@@ -1,0 +1,142 @@
+// Walks over the contracts of a list, a position at a time.
+use series::Contracts;
+use series::Place;
+ghost use mathlib.Core.Path.{_≡_};
+ghost use Prim.Native.Nat.{_+_, _≤_};
+ghost use Rattle.series.specs.Places.{total, run, OnWheel};
+ghost use lib.ListN.{length, getD};
+ghost use Rattle.allocation.specs.Stretch.{Ends, Grown, Room, Small, OnList, Stands, Assigned, placeOf};
+
+// Where a walk ends: in the position at, of which so many contracts are passed; or past the list, with so many left.
+pub struct Stop {
+    pub at: usize,
+    pub passed: Contracts,
+    pub left: Contracts,
+}
+
+// Assigns count contracts one after the other, after the first passed ones of the list.
+pub fn hand(shorts: &[u32], amounts: &mut [u32], passed: Contracts, count: Contracts) -> Stop
+    requires { ⌜ Room (now shorts) (now amounts) ⌝ }
+    requires { ⌜ passed .0 ≤ getD (now shorts) 0 0 ⌝ }
+    ensures { λ r. ⌜ Ends (now (shorts .entry)) (passed .0 + count .0) (r .at) (r .passed .0) (r .left .0) ⌝ }
+    ensures { λ r. ⌜ Grown (now (shorts .entry)) (now (amounts .entry)) (now (amounts .exit)) (passed .0) (passed .0 + count .0) ⌝ }
+{
+    let mut at = 0;
+    let mut skipped = passed.0;
+    let mut left = count.0;
+    while at < shorts.len() {
+        let free = shorts[at] - skipped;
+        if left < free {
+            amounts[at] += left;
+            return Stop {
+                at,
+                passed: Contracts(skipped + left),
+                left: Contracts(0),
+            };
+        }
+        amounts[at] += free;
+        left -= free;
+        skipped = 0;
+        at += 1;
+    }
+    Stop {
+        at,
+        passed: Contracts(0),
+        left: Contracts(left),
+    }
+}
+
+// Passes over count contracts, after the first passed ones of the list.
+pub fn pass(shorts: &[u32], passed: Contracts, count: Contracts) -> Stop
+    requires { ⌜ passed .0 ≤ getD (now shorts) 0 0 ⌝ }
+    ensures { λ r. ⌜ Ends (now (shorts .entry)) (passed .0 + count .0) (r .at) (r .passed .0) (r .left .0) ⌝ }
+{
+    let mut at = 0;
+    let mut skipped = passed.0;
+    let mut left = count.0;
+    while at < shorts.len() {
+        let free = shorts[at] - skipped;
+        if left < free {
+            return Stop {
+                at,
+                passed: Contracts(skipped + left),
+                left: Contracts(0),
+            };
+        }
+        left -= free;
+        skipped = 0;
+        at += 1;
+    }
+    Stop {
+        at,
+        passed: Contracts(0),
+        left: Contracts(left),
+    }
+}
+
+// A place on the wheel: the position that has it, and how many of the position's contracts stand before it.
+pub struct Cursor {
+    pub at: usize,
+    pub passed: Contracts,
+}
+
+// The cursor at a place.
+pub fn seek(shorts: &[u32], place: Place) -> Cursor
+    requires { ⌜ OnWheel (total (now shorts)) (place .0) ⌝ }
+    ensures { λ r. ⌜ Stands (now (shorts .entry)) 0 (place .0) (r .at) (r .passed .0) ⌝ }
+{
+    let stop = pass(shorts, Contracts(0), Contracts(place.0 - 1));
+    let passed = stop.passed;
+    Cursor {
+        at: stop.at,
+        passed,
+    }
+}
+
+// Assigns count contracts from the cursor on, to the end of the list and then from the top; the cursor after them.
+pub fn assign_run(shorts: &[u32], amounts: &mut [u32], cursor: Cursor, count: Contracts) -> Cursor
+    requires { ⌜ Small (now shorts) (now amounts) ⌝ }
+    requires { ⌜ OnList (now shorts) (cursor .at) (cursor .passed .0) ⌝ }
+    requires { ⌜ count .0 ≤ total (now shorts) ⌝ }
+    ensures { λ r. ⌜ Stands (now (shorts .entry)) (count .0) (placeOf (now (shorts .entry)) (cursor .at) (cursor .passed .0)) (r .at) (r .passed .0) ⌝ }
+    ensures { λ r. ⌜ Assigned (now (shorts .entry)) (now (amounts .entry)) (now (amounts .exit)) (run (total (now (shorts .entry))) (count .0) (placeOf (now (shorts .entry)) (cursor .at) (cursor .passed .0))) ⌝ }
+{
+    let at = cursor.at;
+    let passed = cursor.passed;
+    let stop = hand(&shorts[at..], &mut amounts[at..], passed, count);
+    let on = stop.at;
+    if on < shorts.len() - at {
+        let passed = stop.passed;
+        return Cursor {
+            at: at + on,
+            passed,
+        };
+    }
+    let left = stop.left;
+    let top = hand(shorts, amounts, Contracts(0), left);
+    let passed = top.passed;
+    Cursor { at: top.at, passed }
+}
+
+// The cursor count contracts further on.
+pub fn skip_run(shorts: &[u32], cursor: Cursor, count: Contracts) -> Cursor
+    requires { ⌜ OnList (now shorts) (cursor .at) (cursor .passed .0) ⌝ }
+    requires { ⌜ count .0 ≤ total (now shorts) ⌝ }
+    ensures { λ r. ⌜ Stands (now (shorts .entry)) (count .0) (placeOf (now (shorts .entry)) (cursor .at) (cursor .passed .0)) (r .at) (r .passed .0) ⌝ }
+{
+    let at = cursor.at;
+    let passed = cursor.passed;
+    let stop = pass(&shorts[at..], passed, count);
+    let on = stop.at;
+    if on < shorts.len() - at {
+        let passed = stop.passed;
+        return Cursor {
+            at: at + on,
+            passed,
+        };
+    }
+    let left = stop.left;
+    let top = pass(shorts, Contracts(0), left);
+    let passed = top.passed;
+    Cursor { at: top.at, passed }
+}
