@@ -1,3 +1,5 @@
 mod StretchLaws
 mod PartLaws
 mod RunLaws
+mod ListLaws
+mod TurnLaws

@@ -57,15 +57,15 @@ module _ (hs old : List ℕ) (a lo hi : ℕ) where
 -- what a part's amounts grew by, said of the whole list
 pub grown-part : (hs old new : List ℕ) (a lo hi : ℕ) → a ≤ length hs → length old ≡ length hs → Grown (drop a hs) (drop a old) new lo hi → Grown hs old (take a old ++ new) (before hs a + lo) (before hs a + hi)
 grown-part hs old new a lo hi h l g =
-    record
-    { same-length = length-append (take a old) new ∙ omega (arith, length-take-le a old (omega arith), g .same-length, length-drop a old);
-      grown = λ j k. elim (decLt j a)
-        [ yes less ↦
+    record {
+      same-length = length-append (take a old) new ∙ omega (arith, length-take-le a old (omega arith), g .same-length, length-drop a old);
+      grown = λ j k. elim (decLt j a) [
+        | yes less ↦
             put-before old new a j (omega arith) less ∙
             omega (arith, overlap-none (before hs j) (last hs j) (before hs a + lo) (before hs a + hi) (omega (arith, before-suc hs j k, before-mono hs (suc j) a less h)))
         | no more ↦
             let i : ℕ = j - a in
             let e : j ≡ a + i = omega arith in
             rw e (put-after old new a i (omega arith) ∙ g .grown i (omega (arith, length-drop a hs)) ∙ shifted hs old a lo hi i)
-        ]
+      ];
     }

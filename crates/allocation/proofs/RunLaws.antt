@@ -5,12 +5,13 @@ use mathlib.Core.List.{List, [], _++_}
 use native.Mathlib.Omega.{arith}
 use native.Mathlib.Nat.{zero-add, add-zero, add-assoc}
 use native.Mathlib.Decide.{decLe, decLt}
-use lib.ListN.{length, getD, take, drop, length-drop}
-use lib.Seq.{getD-drop}
+use lib.ListN.{length, getD, take, drop, length-drop, replicate, length-replicate, getD-replicate}
+use lib.Seq.{getD-drop, ext-getD}
 use borrow.Rule.Slice.PartMut.{putMid}
-use Rattle.series.specs.Places.{total, before, last, steps, run, marked, OnWheel}
-use Rattle.series.proofs.PlaceLaws.{steps-plain, steps-past, before-all, last-total, run-plain, run-past, upFrom, marked-append, marked-upFrom}
-use Rattle.allocation.specs.Stretch.{overlap, Ends, Grown, OnList, Stands, Assigned, Small, Room, placeOf}
+use Rattle.series.specs.Places.{total, before, last, steps, run, marked, amounts, OnWheel}
+use Rattle.series.specs.Lottery.{lottery}
+use Rattle.series.proofs.PlaceLaws.{steps-plain, steps-past, before-all, last-total, amount-at, length-amounts, run-plain, run-past, upFrom, marked-append, marked-upFrom}
+use Rattle.allocation.specs.Stretch.{overlap, Ends, Grown, OnList, Stands, Assigned, Small, Listed, Room, placeOf}
 use Rattle.allocation.proofs.StretchLaws.{last-is}
 use Rattle.allocation.proofs.PartLaws.{before-drop, part-is, put-is, grown-part}
 
@@ -29,26 +30,26 @@ wrap b e q x T h l = omega arith
 pub run-overlap : (T q n b e : ℕ) → q < T → n ≤ T → b ≤ e → e ≤ T → marked b e (run T n (suc q)) ≡ overlap b e q (q + n) + overlap b e 0 (q + n - T)
 unfolding overlap
 run-overlap T q n b e hq hn hb he =
-    elim (decLe (q + n) T)
-    [ yes l ↦ ap (marked b e) (run-plain T n q l) ∙ marked-upFrom b e q n hb ∙ no-wrap b e q (q + n) T l
-    | no g ↦
-        let m : ℕ = q + n - T in
-        let past : T ≤ q + n = omega arith in
-        let less : m ≤ T = omega arith in
-        let end : q + (T - q) ≡ T = omega arith in
-        let low : marked b e (upFrom (suc q) (T - q)) ≡ overlap b e q (q + n) = marked-upFrom b e q (T - q) hb ∙ ap (λ k. min e k - max b q) end ∙ wrap b e q (q + n) T he past in
-        let top : marked b e (upFrom 1 m) ≡ overlap b e 0 m = marked-upFrom b e 0 m hb ∙ ap (λ k. min e k - max b 0) (zero-add m) in
-        ap (marked b e) (run-past T n q hq past less) ∙ marked-append b e (upFrom (suc q) (T - q)) (upFrom 1 m) ∙ ap₂ _+_ low top
+    elim (decLe (q + n) T) [
+      | yes l ↦ ap (marked b e) (run-plain T n q l) ∙ marked-upFrom b e q n hb ∙ no-wrap b e q (q + n) T l
+      | no g ↦
+          let m : ℕ = q + n - T in
+          let past : T ≤ q + n = omega arith in
+          let less : m ≤ T = omega arith in
+          let end : q + (T - q) ≡ T = omega arith in
+          let low : marked b e (upFrom (suc q) (T - q)) ≡ overlap b e q (q + n) = marked-upFrom b e q (T - q) hb ∙ ap (λ k. min e k - max b q) end ∙ wrap b e q (q + n) T he past in
+          let top : marked b e (upFrom 1 m) ≡ overlap b e 0 m = marked-upFrom b e 0 m hb ∙ ap (λ k. min e k - max b 0) (zero-add m) in
+          ap (marked b e) (run-past T n q hq past less) ∙ marked-append b e (upFrom (suc q) (T - q)) (upFrom 1 m) ∙ ap₂ _+_ low top
     ]
 
 -- a walk of fewer contracts than the list has ends in a position
 ends-inside : (hs : List ℕ) (x i p l : ℕ) → Ends hs x i p l → x < total hs → i < length hs
 ends-inside hs x i p l t h =
-    elim (decLt i (length hs))
-    [ yes k ↦ k
-    | no g ↦
-        let all : i ≡ length hs = omega (arith, t .on-list) in
-        absurd (omega (arith, t .reached, ap (before hs) all, before-all hs))
+    elim (decLt i (length hs)) [
+      | yes k ↦ k
+      | no g ↦
+          let all : i ≡ length hs = omega (arith, t .on-list) in
+          absurd (omega (arith, t .reached, ap (before hs) all, before-all hs))
     ]
 
 on-wheel : (hs : List ℕ) (i passed : ℕ) → OnList hs i passed → before hs i + passed < total hs
@@ -84,9 +85,9 @@ module _ (hs : List ℕ) (a passed n i p l : ℕ) (on : OnList hs a passed) (e :
       let left = left-past h in
       let less : l < total hs = omega (arith, left .0, left .1) in
       let in-list : i2 < length hs = ends-inside hs (0 + l) i2 p2 l2 t (omega arith) in
-      record
-      { on = record { position = in-list; contract = t .inside in-list .0 };
-        place = sym (steps-past (total hs) n q below (left .1) (omega (arith, left .0)) ∙ omega (arith, left .0, t .reached, t .inside in-list .1))
+      record {
+        on = record { position = in-list; contract = t .inside in-list .0 };
+        place = sym (steps-past (total hs) n q below (left .1) (omega (arith, left .0)) ∙ omega (arith, left .0, t .reached, t .inside in-list .1));
       }
 
 -- what is asked of the part that the cursor stands in
@@ -111,11 +112,11 @@ position-most hs j h = omega (arith, last-is hs j, last-total hs j h)
 pub room-part : (hs out : List ℕ) (a : ℕ) → Small hs out → a ≤ length hs → Room (take (length hs - a) (drop a hs)) (take (length out - a) (drop a out))
 room-part hs out a s h =
     rw (part-is hs a, part-is out a)
-    (record
-    { lengths = omega (arith, length-drop a hs, length-drop a out, s .lengths);
+    (record {
+      lengths = omega (arith, length-drop a hs, length-drop a out, s .lengths);
       room = λ j k.
-        let inside : a + j < length hs = omega (arith, length-drop a hs) in
-        omega (arith, getD-drop a hs j 0, getD-drop a out j 0, s .amounts (a + j) inside, position-most hs (a + j) inside, s .list)
+          let inside : a + j < length hs = omega (arith, length-drop a hs) in
+          omega (arith, getD-drop a hs j 0, getD-drop a out j 0, s .amounts (a + j) inside, position-most hs (a + j) inside, s .list);
     })
 
 overlap-most : (b h lo hi : ℕ) → overlap b (b + h) lo hi ≤ h
@@ -126,9 +127,9 @@ overlap-most b h lo hi = omega arith
 room-again : (hs out mid : List ℕ) (lo hi : ℕ) → Small hs out → Grown hs out mid lo hi → Room hs mid
 unfolding last
 room-again hs out mid lo hi s g =
-    record
-    { lengths = omega (arith, g .same-length, s .lengths);
-      room = λ j k. omega (arith, g .grown j k, s .amounts j k, position-most hs j k, s .list, overlap-most (before hs j) (getD hs j 0) lo hi)
+    record {
+      lengths = omega (arith, g .same-length, s .lengths);
+      room = λ j k. omega (arith, g .grown j k, s .amounts j k, position-most hs j k, s .list, overlap-most (before hs j) (getD hs j 0) lo hi);
     }
 
 -- what the part's amounts grew by, said of all amounts with the part put back
@@ -148,18 +149,18 @@ module _ (hs out : List ℕ) (q n : ℕ) (below : q < total hs) (most : n ≤ to
   assigned-part : (new : List ℕ) → q + n ≤ total hs → Grown hs out new q (q + n) → Assigned hs out new (run (total hs) n (suc q))
   assigned-part new h g =
       let none : q + n - total hs ≡ 0 = omega arith in
-      record
-      { same-length = g .same-length;
-        grown = λ j k. omega (arith, g .grown j k, run-at j k, ap (overlap (before hs j) (last hs j) 0) none, overlap-zero (before hs j) (last hs j))
+      record {
+        same-length = g .same-length;
+        grown = λ j k. omega (arith, g .grown j k, run-at j k, ap (overlap (before hs j) (last hs j) 0) none, overlap-zero (before hs j) (last hs j));
       }
 
   -- a run that goes on from the top
   assigned-top : (mid new : List ℕ) (l : ℕ) → l ≡ q + n - total hs → Grown hs out mid q (q + n) → Grown hs mid new 0 (0 + l) → Assigned hs out new (run (total hs) n (suc q))
   assigned-top mid new l e g t =
       let top : 0 + l ≡ q + n - total hs = omega arith in
-      record
-      { same-length = t .same-length ∙ g .same-length;
-        grown = λ j k. omega (arith, g .grown j k, t .grown j k, run-at j k, ap (overlap (before hs j) (last hs j) 0) top)
+      record {
+        same-length = t .same-length ∙ g .same-length;
+        grown = λ j k. omega (arith, g .grown j k, t .grown j k, run-at j k, ap (overlap (before hs j) (last hs j) 0) top);
       }
 
 -- One run of n contracts from the cursor: the walk over the part that the cursor stands in, and the one from the top.
@@ -176,12 +177,39 @@ module _ (hs out new : List ℕ) (a passed n i p l : ℕ) (small : Small hs out)
   pub run-part : i < length hs - a → (Stands hs n (placeOf hs a passed) (a + i) p) × Assigned hs out (putMid a (length out - a) out new) (run (total hs) n (placeOf hs a passed))
   unfolding placeOf
   run-part h =
-      let stands = stands-part hs a passed n i p l on ends h in
-      (stands,
-       assigned-part hs out (before hs a + passed) n (on-wheel hs a passed on) most (putMid a (length out - a) out new) (omega (arith, on-wheel hs (a + i) p (stands .on), reached-whole hs a passed n i p l on ends, ends .inside (omega (arith, length-drop a hs)) .1)) grown)
+      let stands = stands-part hs a passed n i p l on ends h in (
+        stands,
+        assigned-part hs out (before hs a + passed) n (on-wheel hs a passed on) most (putMid a (length out - a) out new) (omega (arith, on-wheel hs (a + i) p (stands .on), reached-whole hs a passed n i p l on ends, ends .inside (omega (arith, length-drop a hs)) .1)) grown,
+      )
 
   pub run-top : length hs - a ≤ i → (last-new : List ℕ) (i2 p2 l2 : ℕ) → Ends hs (0 + l) i2 p2 l2 → Grown hs (putMid a (length out - a) out new) last-new 0 (0 + l) → (Stands hs n (placeOf hs a passed) i2 p2) × Assigned hs out last-new (run (total hs) n (placeOf hs a passed))
   unfolding placeOf
-  run-top h last-new i2 p2 l2 e2 g2 =
-      (stands-top hs a passed n i p l on ends most h i2 p2 l2 e2,
-       assigned-top hs out (before hs a + passed) n (on-wheel hs a passed on) most (putMid a (length out - a) out new) last-new l (left-past hs a passed n i p l on ends h .0) grown g2)
+  run-top h last-new i2 p2 l2 e2 g2 = (
+    stands-top hs a passed n i p l on ends most h i2 p2 l2 e2,
+    assigned-top hs out (before hs a + passed) n (on-wheel hs a passed on) most (putMid a (length out - a) out new) last-new l (left-past hs a passed n i p l on ends h .0) grown g2,
+  )
+
+-- where all amounts were 0, they are the marks on each position's contracts
+pub assigned-amounts : (hs out new ms : List ℕ) → length out ≡ length hs → Assigned hs (replicate (length out) 0) new ms → new ≡ amounts hs ms
+assigned-amounts hs out new ms l a =
+    ext-getD 0 new (amounts hs ms) (a .same-length ∙ length-replicate {A = ℕ} (length out) 0 ∙ l ∙ sym (length-amounts hs ms))
+    (λ j h.
+      let inside : j < length hs = omega (arith, a .same-length, length-replicate {A = ℕ} (length out) 0) in
+      omega (arith, a .grown j inside, amount-at hs ms j inside, getD-replicate {A = ℕ} (length out) j 0 0 (omega arith)))
+
+pub small-zero : (hs out : List ℕ) → Listed hs out → Small hs (replicate (length out) 0)
+small-zero hs out l =
+    record
+    { lengths = length-replicate {A = ℕ} (length out) 0 ∙ l .lengths;
+      list = l .list;
+      amounts = λ j h. omega (arith, getD-replicate {A = ℕ} (length out) j 0 0 (omega (arith, l .lengths)))
+    }
+
+-- one run from a starting place
+module _ (hs out cleared : List ℕ) (S p i passed : ℕ) (listed : Listed hs out) (most : S ≤ total hs) (stands : Stands hs 0 p i passed) (ec : cleared ≡ replicate (length out) 0) where
+  pub lottery-ready : Small hs cleared × (OnList hs i passed × (S ≤ total hs))
+  lottery-ready = rw ec (small-zero hs out listed, (stands .on, most))
+
+  pub lottery-done : (new : List ℕ) → Assigned hs cleared new (run (total hs) S (placeOf hs i passed)) → new ≡ lottery hs S p
+  unfolding lottery steps
+  lottery-done new a = assigned-amounts hs out new (run (total hs) S p) (listed .lengths) (rw (ec, stands .place) at a)

@@ -50,3 +50,8 @@ pub record Assigned (hs old new ms : List ℕ) : Type 0 where
 pub record Stands (hs : List ℕ) (n p i passed : ℕ) : Type 0 where
   pub on : OnList hs i passed
   pub place : placeOf hs i passed ≡ steps (total hs) n p
+
+-- a list of at most 10,000,000 contracts, with an amount for each position
+pub record Listed (hs out : List ℕ) : Type 0 where
+  pub lengths : length out ≡ length hs
+  pub list : total hs ≤ 10000000

@@ -1,2 +1,6 @@
 // The allocating call, and private modules for its parts.
+mod lists;
+mod lottery;
+mod millionths;
 mod places;
+mod wheel;

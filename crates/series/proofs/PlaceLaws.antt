@@ -84,11 +84,21 @@ unfolding placesAt
 places-append T [] us p = refl
 places-append T (o ∷ os) us p = ap (steps T o p ∷_) (places-append T os us p)
 
+pub length-places : (T : ℕ) (os : List ℕ) (p : ℕ) → length (placesAt T os p) ≡ length os
+unfolding placesAt
+length-places T [] p = refl
+length-places T (o ∷ os) p = ap suc (length-places T os p)
+
 -- a run is the places at offsets one after the other
 pub run-places : (T n a p : ℕ) → run T n (steps T a p) ≡ placesAt T (upFrom a n) p
 unfolding run upFrom placesAt
 run-places T zero a p = refl
 run-places T (suc n) a p = ap (steps T a p ∷_) (ap (run T n) (sym (steps-suc T a p)) ∙ run-places T n (suc a) p)
+
+bit-most : (t : Bool) → bit t ≤ 1
+unfolding bit
+bit-most true = omega arith
+bit-most false = omega arith
 
 pub within-yes : (b e m : ℕ) → b < m → m ≤ e → bit (within b e m) ≡ 1
 unfolding within bit
@@ -162,6 +172,11 @@ unfolding marked
 marked-append b e [] ys = omega arith
 marked-append b e (x ∷ xs) ys = omega (arith, marked-append b e xs ys)
 
+pub marked-length : (b e : ℕ) (ms : List ℕ) → marked b e ms ≤ length ms
+unfolding marked
+marked-length b e [] = omega arith
+marked-length b e (m ∷ ms) = omega (arith, marked-length b e ms, bit-most (within b e m))
+
 pub marked-none : (b : ℕ) (ms : List ℕ) → marked b b ms ≡ 0
 marked-none b ms = omega (arith, marked-split b b b ms (le-refl b) (le-refl b))
 
@@ -171,11 +186,11 @@ unfolding marked upFrom
 marked-upFrom b e q zero h = omega arith
 marked-upFrom b e q (suc n) h =
     let after : marked b e (upFrom (suc (suc q)) n) ≡ min e (suc q + n) - max b (suc q) = marked-upFrom b e (suc q) n h in
-    elim (decLt b (suc q))
-    [ yes bq ↦
-        elim (decLe (suc q) e)
-        [ yes qe ↦ omega (arith, within-yes b e (suc q) bq qe) | no eq ↦ omega (arith, within-high b e (suc q) (omega arith)) ]
-    | no qb ↦ omega (arith, within-low b e (suc q) (omega arith))
+    elim (decLt b (suc q)) [
+      | yes bq ↦
+          elim (decLe (suc q) e)
+          [ yes qe ↦ omega (arith, within-yes b e (suc q) bq qe) | no eq ↦ omega (arith, within-high b e (suc q) (omega arith)) ]
+      | no qb ↦ omega (arith, within-low b e (suc q) (omega arith))
     ]
 
 -- the next position begins where this one ends

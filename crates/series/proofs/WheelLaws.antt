@@ -3,13 +3,13 @@ use Prim.Native.Nat.{ℕ, zero, suc, _+_, _-_, _*_, _/_, _%_, _≤_, _<_}
 use mathlib.Core.Path.{_≡_, refl, sym, ap, ap₂, subst, _∙_}
 use mathlib.Core.List.{List, [], _∷_, _++_}
 use native.Mathlib.Omega.{arith}
-use native.Mathlib.Nat.{le-refl, div-add-mod, mul-comm, mul-div-le, lt-mul-div-succ}
+use native.Mathlib.Nat.{le-refl, mul-le-mul-left, div-add-mod, mul-comm, mul-div-le, lt-mul-div-succ}
 use native.Mathlib.Decide.{decLt, decLe}
 use lib.ListN.{length, getD, length-append}
 use borrow.Author.Tests.{eq-eqb, ne-eqb}
 use Rattle.series.specs.Places.{total, steps, marked, amounts, OnWheel, overPlaces}
 use Rattle.series.specs.Wheel.{ONE, blocks, interval, marks, wheelMarks, wheel}
-use Rattle.series.proofs.PlaceLaws.{steps-add, upFrom, length-upFrom, placesAt, places-append, run-places, Rising, rising-upFrom, rising-append, rising-more, over-cong, over-const, places-sum, places-share, places-most, places-once}
+use Rattle.series.proofs.PlaceLaws.{steps-add, upFrom, length-upFrom, placesAt, length-places, places-append, run-places, Rising, rising-upFrom, rising-append, rising-more, over-cong, over-const, places-sum, places-share, places-most, places-once}
 
 -- the offsets that n blocks of I and a last one of l mark, from offset a on, with skip interval k and reserve r
 unfoldable pub offsets : ℕ → ℕ → ℕ → ℕ → ℕ → ℕ → List ℕ
@@ -70,6 +70,13 @@ span-fits T I S n q low high less few near =
           omega arith
     ]
 
+le-by-factor : (x n q : ℕ) → 2 * suc n * q ≤ 2 * x + suc n → q ≤ x
+le-by-factor x n q h =
+    elim (decLe q x)
+    [ yes l ↦ l
+    | no g ↦ let m : suc n * suc x ≤ suc n * q = mul-le-mul-left (suc n) (omega arith) in absurd (omega (arith, mul-le-mul-left n (le-refl x)))
+    ]
+
 zero-sum : (x y z : ℕ) → x + y < z → 0 + x + y < z
 zero-sum x y z h = omega arith
 
@@ -80,6 +87,12 @@ wheelOffsets I T S = offsets I (interval I T (blocks I S)) (S - I * (blocks I S 
 pub wheel-places : (I T S p : ℕ) → wheelMarks I T S p ≡ placesAt T (wheelOffsets I T S) p
 unfolding wheelMarks wheelOffsets steps
 wheel-places I T S p = marks-places T I (interval I T (blocks I S)) (S - I * (blocks I S - 1)) (blocks I S - 1) 0 p 0
+
+-- a skip interval is at least one contract short of the whole wheel
+interval-most : (T n q I : ℕ) → 0 < I → 0 < T → 2 * suc n * q ≤ 2 * (T * ONE) + suc n → q - I * ONE + ONE ≤ T * ONE
+interval-most T n q I hi ht near =
+    let most : q ≤ T * ONE = le-by-factor (T * ONE) n q near in
+    omega arith
 
 pub length-wheelOffsets : (I T S : ℕ) → 0 < I → 0 < S → length (wheelOffsets I T S) ≡ S
 unfolding wheelOffsets
@@ -143,3 +156,14 @@ module _ (I : ℕ) (hs : List ℕ) (S : ℕ) (hi : 0 < I) (some : 0 < S) (most :
 pub wheel-once : (I T S : ℕ) → 0 < I → 0 < S → S < T → blocks I S ≤ ONE → (p m : ℕ) → OnWheel T p → m < T → marked m (suc m) (wheelMarks I T S p) ≤ 1
 wheel-once I T S hi some less few p m on l =
     rw (wheel-places I T S p) (places-once T m p (wheelOffsets I T S) on (rising-wheelOffsets I T S hi some less few) l)
+
+pub interval-short : (I T T1 : ℕ) → 0 < I → 0 < T → 0 < T1 → interval I T T1 + ONE ≤ T * ONE
+unfolding interval
+interval-short I T T1 hi ht h1 =
+    let n : ℕ = T1 - 1 in
+    let e : T1 ≡ suc n = omega arith in
+    let q : ℕ = (2 * (T * ONE) + T1) / (2 * T1) in
+    interval-most T n q I hi ht (subst (λ (t : ℕ). 2 * t * q ≤ 2 * (T * ONE) + t) e (mul-div-le (2 * (T * ONE) + T1) (2 * T1)))
+
+pub length-wheelMarks : (I T S p : ℕ) → 0 < I → 0 < S → length (wheelMarks I T S p) ≡ S
+length-wheelMarks I T S p hi hs = ap length (wheel-places I T S p) ∙ length-places T (wheelOffsets I T S) p ∙ length-wheelOffsets I T S hi hs
