@@ -3,3 +3,4 @@ mod PartLaws
 mod RunLaws
 mod ListLaws
 mod TurnLaws
+mod JudgingLaws

@@ -194,15 +194,15 @@ pub assigned-amounts : (hs out new ms : List ℕ) → length out ≡ length hs �
 assigned-amounts hs out new ms l a =
     ext-getD 0 new (amounts hs ms) (a .same-length ∙ length-replicate {A = ℕ} (length out) 0 ∙ l ∙ sym (length-amounts hs ms))
     (λ j h.
-      let inside : j < length hs = omega (arith, a .same-length, length-replicate {A = ℕ} (length out) 0) in
-      omega (arith, a .grown j inside, amount-at hs ms j inside, getD-replicate {A = ℕ} (length out) j 0 0 (omega arith)))
+    let inside : j < length hs = omega (arith, a .same-length, length-replicate {A = ℕ} (length out) 0) in
+    omega (arith, a .grown j inside, amount-at hs ms j inside, getD-replicate {A = ℕ} (length out) j 0 0 (omega arith)))
 
 pub small-zero : (hs out : List ℕ) → Listed hs out → Small hs (replicate (length out) 0)
 small-zero hs out l =
-    record
-    { lengths = length-replicate {A = ℕ} (length out) 0 ∙ l .lengths;
+    record {
+      lengths = length-replicate {A = ℕ} (length out) 0 ∙ l .lengths;
       list = l .list;
-      amounts = λ j h. omega (arith, getD-replicate {A = ℕ} (length out) j 0 0 (omega (arith, l .lengths)))
+      amounts = λ j h. omega (arith, getD-replicate {A = ℕ} (length out) j 0 0 (omega (arith, l .lengths)));
     }
 
 -- one run from a starting place

@@ -32,9 +32,9 @@ turning-end hs out₀ out new all rest t a =
 
 turning-next : (hs out₀ out new all xs rest : List ℕ) → Turning hs out₀ out all (xs ++ rest) → Assigned hs out new xs → Turning hs out₀ new all rest
 turning-next hs out₀ out new all xs rest t a =
-    record
-    { same-length = a .same-length ∙ t .same-length;
-      due = λ j h. omega (arith, t .due j h, a .grown j h, marked-append (before hs j) (last hs j) xs rest)
+    record {
+      same-length = a .same-length ∙ t .same-length;
+      due = λ j h. omega (arith, t .due j h, a .grown j h, marked-append (before hs j) (last hs j) xs rest);
     }
 
 -- the state at the head of the loop: block is the number of the block that comes next
@@ -52,10 +52,10 @@ turned-start hs out i passed k r blocks I l b =
 -- the amounts stay small
 pub turned-small : (hs out₀ out : List ℕ) (i₀ p₀ r₀ i passed k r block blocks I l : ℕ) → Small hs out₀ → Blocks hs out₀ i₀ p₀ k r₀ blocks I l → Turned hs out₀ out (marksFrom hs i₀ p₀ k r₀ blocks I l) i passed k r block blocks I l → Small hs out
 turned-small hs out₀ out i₀ p₀ r₀ i passed k r block blocks I l s b t =
-    record
-    { lengths = t .turning .same-length ∙ s .lengths;
+    record {
+      lengths = t .turning .same-length ∙ s .lengths;
       list = s .list;
-      amounts = λ j h. omega (arith, t .turning .due j h, b .small j h)
+      amounts = λ j h. omega (arith, t .turning .due j h, b .small j h);
     }
 
 -- one block and one skip
@@ -68,11 +68,11 @@ turned-next hs out₀ out new all i passed k r block blocks I l i1 p1 i2 p2 r2 t
     let here : Turning hs out₀ out all (run (total hs) I p ++ marks (total hs) I k l n (steps (total hs) ((k + r) / ONE) (steps (total hs) I p)) ((k + r) % ONE)) = rw one-more at (t .turning) in
     let next-place : steps (total hs) ((k + r) / ONE) (steps (total hs) I p) ≡ placeOf hs i2 p2 = ap (steps (total hs) ((k + r) / ONE)) (sym (s .place)) ∙ sym (sk .stands .place) in
     let there : Turning hs out₀ out all (run (total hs) I p ++ marks (total hs) I k l n (placeOf hs i2 p2) r2) = rw (next-place, ← (sk .rest)) at here in
-    record
-    { ready = record { on = sk .stands .on; short = t .ready .short; decimals = rw (sk .rest) (mod-lt (k + r) (omega arith)); list = t .ready .list };
+    record {
+      ready = record { on = sk .stands .on; short = t .ready .short; decimals = rw (sk .rest) (mod-lt (k + r) (omega arith)); list = t .ready .list };
       first = omega arith;
       most = omega arith;
-      turning = turning-next hs out₀ out new all (run (total hs) I p) (marks (total hs) I k l n (placeOf hs i2 p2) r2) there a
+      turning = turning-next hs out₀ out new all (run (total hs) I p) (marks (total hs) I k l n (placeOf hs i2 p2) r2) there a;
     }
 
 -- the last block
@@ -100,14 +100,14 @@ module _ (hs out : List ℕ) (I S p i passed : ℕ) (inc : Increment I S) (stand
   blocks-start l less =
       let n : ℕ = blocks I S - 1 in
       let b : BlockCount I S n = blocks-are I S (inc .some) (inc .exercised-some) in
-      record
-      { ready = record { on = stands .on; short = interval-short I (total hs) (blocks I S) (inc .some) (omega arith) (omega (arith, b .is)); decimals = omega arith; list = l .list };
+      record {
+        ready = record { on = stands .on; short = interval-short I (total hs) (blocks I S) (inc .some) (omega arith) (omega (arith, b .is)); decimals = omega arith; list = l .list };
         some = omega (arith, b .is);
         whole = λ h. block-most I S n (total hs) (b .above) (omega (arith, b .is)) (omega arith);
         end = omega arith;
         small = λ j h.
-          rw marks-start
-          (omega (arith, getD-replicate {A = ℕ} (length out) j 0 0 (omega (arith, l .lengths)), marked-length (before hs j) (last hs j) (wheelMarks I (total hs) S p), length-wheelMarks I (total hs) S p (inc .some) (inc .exercised-some), inc .exercised-most))
+            rw marks-start
+            (omega (arith, getD-replicate {A = ℕ} (length out) j 0 0 (omega (arith, l .lengths)), marked-length (before hs j) (last hs j) (wheelMarks I (total hs) S p), length-wheelMarks I (total hs) S p (inc .some) (inc .exercised-some), inc .exercised-most));
       }
 
   wheel-done : (new : List ℕ) → length out ≡ length hs → S < total hs → Assigned hs (replicate (length out) 0) new (marksFrom hs i passed (interval I (total hs) (blocks I S)) 0 (blocks I S) I (S - I * (blocks I S - 1))) → new ≡ wheel I hs S p

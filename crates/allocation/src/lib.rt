@@ -1,4 +1,5 @@
 // The allocating call, and private modules for its parts.
+mod judging;
 mod lists;
 mod lottery;
 mod millionths;

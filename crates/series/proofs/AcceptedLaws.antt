@@ -12,7 +12,7 @@ use Rattle.series.specs.Places.{total}
 use Rattle.series.specs.Refusals.{Row, _⟶_∣_, Verdict, accepted, refused, first, aside, lengthRows, positionRows, exercisedRows, drawRows, rows, Accepted, verdict}
 use Rattle.series.specs.declared.Method.{Method}
 
-positive : {n : ℕ} → (n ≡ 0 → ⊥) → 0 < n
+pub positive : {n : ℕ} → (n ≡ 0 → ⊥) → 0 < n
 positive {n} h = elim (decLt 0 n) [ yes l ↦ l | no g ↦ absurd (h (omega arith)) ]
 
 -- the facts of an accepted series
@@ -74,7 +74,7 @@ positions-total before sum (a ∷ rest) (x ∷ hs) l s h =
 pub accepted-facts : (m : Method) (accounts shorts : List ℕ) (S draw room : ℕ) → Accepted m accounts shorts S draw room → Facts accounts shorts S
 unfolding Accepted rows lengthRows exercisedRows aside
 accepted-facts m accounts shorts S draw room h =
-    let below : List Row = exercisedRows shorts S ++ drawRows m shorts draw in
+    let below : List Row = exercisedRows (total shorts) S ++ drawRows m (total shorts) draw in
     let one = first-cons _ _ h in
     let two = first-cons _ _ (one .1) in
     let three = first-cons _ _ (two .1) in
@@ -91,3 +91,40 @@ accepted-facts m accounts shorts S draw room h =
       exercised-some = positive (eqb-false _ _ (eight .0));
       exercised-most = ltb-false _ _ (nine .0);
     }
+
+-- rows that apply or not decide before the rows below them
+pub first-accepted : (xs ys : List Row) → first xs ≡ accepted → first (xs ++ ys) ≡ first ys
+unfolding first
+first-accepted [] ys h = refl
+first-accepted (x ∷ xs) ys h = let here = first-cons x xs h in rw (here .0) (first-accepted xs ys (here .1))
+
+turned-away : (b : Bool) (k n : ℕ) (v w : Verdict) → (v ≡ refused n → w ≡ refused n) → cond b (refused k) v ≡ refused n → cond b (refused k) w ≡ refused n
+turned-away true k n v w f h = h
+turned-away false k n v w f h = f h
+
+pub first-refused : (xs ys : List Row) (n : ℕ) → first xs ≡ refused n → first (xs ++ ys) ≡ refused n
+unfolding first
+first-refused [] ys n h = let z : _≡_ {A = ℕ} 0 1 = cc in absurd (omega arith)
+first-refused (x ∷ xs) ys n h = turned-away (x .holds) (x .number) n (first xs) (first (xs ++ ys)) (first-refused xs ys n) h
+
+-- one row
+pub row-applies : (c : Bool) (n : ℕ) (xs : List Row) → c ≡ true → first (c ⟶ n ∣ xs) ≡ refused n
+unfolding first
+row-applies c n xs e = rw e
+
+pub row-passes : (c : Bool) (n : ℕ) (xs : List Row) → c ≡ false → first (c ⟶ n ∣ xs) ≡ first xs
+unfolding first
+row-passes c n xs e = rw e
+
+-- a call that meets no refusal is an accepted series
+pub verdict-accepted : (m : Method) (accounts shorts : List ℕ) (S draw room : ℕ) → verdict m accounts shorts S draw room ≡ accepted → Accepted m accounts shorts S draw room
+unfolding verdict Accepted aside
+verdict-accepted m accounts shorts S draw room h = fewer (rows m accounts shorts S draw room) h
+  where
+    keep : (b : Bool) (x : Row) (xs : List Row) → x .holds ≡ false → first xs ≡ accepted → first (cond b xs (x ∷ xs)) ≡ accepted
+    keep true x xs e h = h
+    keep false x xs e h = rw (row-passes (x .holds) (x .number) xs e) h
+
+    fewer : (xs : List Row) → first xs ≡ accepted → first (aside xs) ≡ accepted
+    fewer [] h = h
+    fewer (x ∷ xs) h = let here = first-cons x xs h in keep (eqb (x .number) 4 || eqb (x .number) 10) x (aside xs) (here .0) (fewer xs (here .1))

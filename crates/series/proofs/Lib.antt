@@ -6,3 +6,4 @@ pub mod PlaceLaws
 pub mod WheelLaws
 pub mod LotteryLaws
 pub mod AcceptedLaws
+pub mod CallLaws

@@ -72,9 +72,9 @@ span-fits T I S n q low high less few near =
 
 le-by-factor : (x n q : ℕ) → 2 * suc n * q ≤ 2 * x + suc n → q ≤ x
 le-by-factor x n q h =
-    elim (decLe q x)
-    [ yes l ↦ l
-    | no g ↦ let m : suc n * suc x ≤ suc n * q = mul-le-mul-left (suc n) (omega arith) in absurd (omega (arith, mul-le-mul-left n (le-refl x)))
+    elim (decLe q x) [
+      | yes l ↦ l
+      | no g ↦ let m : suc n * suc x ≤ suc n * q = mul-le-mul-left (suc n) (omega arith) in absurd (omega (arith, mul-le-mul-left n (le-refl x)))
     ]
 
 zero-sum : (x y z : ℕ) → x + y < z → 0 + x + y < z

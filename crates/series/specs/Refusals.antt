@@ -49,26 +49,23 @@ positionRows before sum (a ∷ rest) (h ∷ hs) =
     positionRows a (sum + h) rest hs
 
 -- exercised
-unfoldable pub exercisedRows : List ℕ → ℕ → List Row
-exercisedRows shorts S =
-    eqb S 0 ⟶ 8 ∣
-    ltb (total shorts) S ⟶ 9 ∣
-    []
+unfoldable pub exercisedRows : ℕ → ℕ → List Row
+exercisedRows T S = eqb S 0 ⟶ 8 ∣ ltb T S ⟶ 9 ∣ []
 
 -- the draw is outside 1 to n
 unfoldable pub outside : ℕ → ℕ → Bool
 outside n draw = eqb draw 0 || ltb n draw
 
 -- draw
-unfoldable pub drawRows : Method → List ℕ → ℕ → List Row
-drawRows Wheel shorts draw = outside (total shorts) draw ⟶ 10 ∣ []
-drawRows ProRata shorts draw = []
-drawRows Lottery shorts draw = outside 10000 draw ⟶ 10 ∣ []
+unfoldable pub drawRows : Method → ℕ → ℕ → List Row
+drawRows Wheel T draw = outside T draw ⟶ 10 ∣ []
+drawRows ProRata T draw = []
+drawRows Lottery T draw = outside 10000 draw ⟶ 10 ∣ []
 
 -- the table, from top to bottom; room is the length of the output
 unfoldable pub rows : Method → List ℕ → List ℕ → ℕ → ℕ → ℕ → List Row
 rows m accounts shorts S draw room =
-    lengthRows accounts shorts room ++ (positionRows 0 0 accounts shorts ++ (exercisedRows shorts S ++ drawRows m shorts draw))
+    lengthRows accounts shorts room ++ (positionRows 0 0 accounts shorts ++ (exercisedRows (total shorts) S ++ drawRows m (total shorts) draw))
 
 -- the first refusal that the call meets, if any
 unfoldable pub verdict : Method → List ℕ → List ℕ → ℕ → ℕ → ℕ → Verdict

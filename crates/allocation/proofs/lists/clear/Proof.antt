@@ -42,10 +42,11 @@ loop-again : tie.Need-loop-again Inv-loop μ-loop
 loop-again c =
     let seen = c .before in
     let old = seen .before .args .amounts .now in
-    let i = seen .loop .i in
-    (search needs,
-     length-set (seen .loop .amounts) i 0 ∙ seen .loop .inv .1,
-     ap (λ (l : List ℕ). set l i 0) (seen .loop .inv .2) ∙ fill-more i 0 old (omega arith))
+    let i = seen .loop .i in (
+      search needs,
+      length-set (seen .loop .amounts) i 0 ∙ seen .loop .inv .1,
+      ap (λ (l : List ℕ). set l i 0) (seen .loop .inv .2) ∙ fill-more i 0 old (omega arith),
+    )
 
 -- src/lists.rt:6:1
 same-length : tie.Need-same-length Inv-loop μ-loop

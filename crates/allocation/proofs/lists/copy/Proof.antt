@@ -48,10 +48,11 @@ loop-less c = search needs
 loop-again : tie.Need-loop-again Inv-loop μ-loop
 loop-again c =
     let seen = c .before .before in
-    let inside : seen .loop .i < length (seen .loop .amounts) = omega (arith, seen .loop .inv .1, seen .before .pre) in
-    (search needs,
-     length-set (seen .loop .amounts) (seen .loop .i) (getD (seen .before .args .shorts .now) (seen .loop .i) 0) ∙ seen .loop .inv .1,
-     copied-more (seen .before .args .shorts .now) (seen .loop .amounts) (seen .loop .i) inside (seen .loop .inv .2))
+    let inside : seen .loop .i < length (seen .loop .amounts) = omega (arith, seen .loop .inv .1, seen .before .pre) in (
+      search needs,
+      length-set (seen .loop .amounts) (seen .loop .i) (getD (seen .before .args .shorts .now) (seen .loop .i) 0) ∙ seen .loop .inv .1,
+      copied-more (seen .before .args .shorts .now) (seen .loop .amounts) (seen .loop .i) inside (seen .loop .inv .2),
+    )
 
 -- src/lists.rt:17:1
 same-length : tie.Need-same-length Inv-loop μ-loop

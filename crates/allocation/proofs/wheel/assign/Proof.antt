@@ -31,9 +31,10 @@ returns : tie.Need-returns
 returns c =
     let start = c .before .before .before .before .before .before .before .before .before in
     let a = start .args in
-    let same = c .before .before .before .before .if1 .taken in
-    (used-whole (a .increment .0) (a .total .0) (a .exercised .0) same,
-     c .before .before .copy .ensures ∙ sym (wheel-whole (a .increment .0) (a .shorts .now) (a .exercised .0) (a .start .0) (same ∙ start .pre .1 .0)))
+    let same = c .before .before .before .before .if1 .taken in (
+      used-whole (a .increment .0) (a .total .0) (a .exercised .0) same,
+      c .before .before .copy .ensures ∙ sym (wheel-whole (a .increment .0) (a .shorts .now) (a .exercised .0) (a .start .0) (same ∙ start .pre .1 .0)),
+    )
 
 -- src/wheel.rt:105:5
 clear-requires : tie.Need-clear-requires
@@ -79,9 +80,10 @@ returns-2 c =
     let a = start .args in
     let hs = a .shorts .now in
     let differ = c .before .before .before .before .before .before .before .before .before .before .before .before .if1 .left in
-    let less : a .exercised .0 < total hs = omega (arith, start .pre .1 .0, start .pre .1 .1 .0, differ) in
-    (c .before .before .before .before .before .before .before .block-count .ensures ∙ used-part (a .increment .0) (a .total .0) (a .exercised .0) (omega (arith, start .pre .1 .0)),
-     turn-done hs (a .amounts .now) (c .before .before .before .before .before .before .before .before .before .before .clear .last .0) (a .increment .0) (a .exercised .0) (a .start .0) (c .before .before .before .before .before .seek .result .at) (c .before .before .before .before .before .seek .result .passed .0) (a .total .0) (c .before .before .before .before .interval .result .0) (c .before .before .before .before .before .before .before .block-count .result) (c .before .before .before .before .before .before .last-block .result .0) (start .pre .0) (start .pre .1 .1 .1 .0) (c .before .before .before .before .before .seek .ensures) (start .pre .1 .0) less (c .before .before .before .before .before .before .before .before .before .before .clear .ensures) (c .before .before .before .before .before .before .before .block-count .ensures) (c .before .before .before .before .before .before .last-block .ensures) (c .before .before .before .before .interval .ensures) (c .before .before .turn .last .1 .0) (c .before .before .turn .ensures))
+    let less : a .exercised .0 < total hs = omega (arith, start .pre .1 .0, start .pre .1 .1 .0, differ) in (
+      c .before .before .before .before .before .before .before .block-count .ensures ∙ used-part (a .increment .0) (a .total .0) (a .exercised .0) (omega (arith, start .pre .1 .0)),
+      turn-done hs (a .amounts .now) (c .before .before .before .before .before .before .before .before .before .before .clear .last .0) (a .increment .0) (a .exercised .0) (a .start .0) (c .before .before .before .before .before .seek .result .at) (c .before .before .before .before .before .seek .result .passed .0) (a .total .0) (c .before .before .before .before .interval .result .0) (c .before .before .before .before .before .before .before .block-count .result) (c .before .before .before .before .before .before .last-block .result .0) (start .pre .0) (start .pre .1 .1 .1 .0) (c .before .before .before .before .before .seek .ensures) (start .pre .1 .0) less (c .before .before .before .before .before .before .before .before .before .before .clear .ensures) (c .before .before .before .before .before .before .before .block-count .ensures) (c .before .before .before .before .before .before .last-block .ensures) (c .before .before .before .before .interval .ensures) (c .before .before .turn .last .1 .0) (c .before .before .turn .ensures),
+    )
 
 pub assign-spec : {M : Type 1} → statement M
 assign-spec =

@@ -65,9 +65,10 @@ loop-again c =
     let a = seen .before .before .before .args in
     let w = seen .loop .wheel in
     let run = c .before .before .before .assign-run in
-    let kept = ap (λ (k : Millionths). k .0) (seen .loop .inv .0) in
-    (c .skip .ensures .0 ∙ seen .loop .inv .0,
-     turned-next (a .shorts .now) (a .amounts .now) (seen .loop .amounts) (run .last .1 .0) _ (w .cursor .at) (w .cursor .passed .0) (a .start .interval .0) (w .reserve .0) (seen .loop .block) (a .blocks) (a .increment .0) (a .last .0) (run .result .at) (run .result .passed .0) (c .skip .result .cursor .at) (c .skip .result .cursor .passed .0) (c .skip .result .reserve .0) (seen .loop .inv .1) (c .before .before .before .before .before .before .loop-test .taken) (run .ensures .0) (run .ensures .1) (rw kept at (c .skip .ensures .1)))
+    let kept = ap (λ (k : Millionths). k .0) (seen .loop .inv .0) in (
+      c .skip .ensures .0 ∙ seen .loop .inv .0,
+      turned-next (a .shorts .now) (a .amounts .now) (seen .loop .amounts) (run .last .1 .0) _ (w .cursor .at) (w .cursor .passed .0) (a .start .interval .0) (w .reserve .0) (seen .loop .block) (a .blocks) (a .increment .0) (a .last .0) (run .result .at) (run .result .passed .0) (c .skip .result .cursor .at) (c .skip .result .cursor .passed .0) (c .skip .result .reserve .0) (seen .loop .inv .1) (c .before .before .before .before .before .before .loop-test .taken) (run .ensures .0) (run .ensures .1) (rw kept at (c .skip .ensures .1)),
+    )
 
 -- src/wheel.rt:64:5
 assign-run-requires-2 : tie.Need-assign-run-requires-2 Inv-loop μ-loop

@@ -31,9 +31,10 @@ rest-requires c κs = search needs
 returns : tie.Need-returns
 returns c =
     let a = c .before .before .before .before .before .before .before .before .args in
-    let due = c .before .before .before .plus in
-    (refl,
-     skip-is (a .shorts .now) (a .self .cursor .at) (a .self .cursor .passed .0) (a .self .interval .0 + a .self .reserve .0) (due .result .0) (c .before .before .whole .result .0) (c .before .skip-run .result .at) (c .before .skip-run .result .passed .0) (c .rest .result .0) (due .ensures) (c .before .before .whole .ensures) (c .rest .ensures) (c .before .skip-run .ensures))
+    let due = c .before .before .before .plus in (
+      refl,
+      skip-is (a .shorts .now) (a .self .cursor .at) (a .self .cursor .passed .0) (a .self .interval .0 + a .self .reserve .0) (due .result .0) (c .before .before .whole .result .0) (c .before .skip-run .result .at) (c .before .skip-run .result .passed .0) (c .rest .result .0) (due .ensures) (c .before .before .whole .ensures) (c .rest .ensures) (c .before .skip-run .ensures),
+    )
 
 pub skip-spec : {M : Type 1} → statement M
 skip-spec =
