@@ -91,11 +91,11 @@ module _ (accounts shorts : List ℕ) (before sum i : ℕ) (l : length accounts 
   pub judging-next : before < a → (n ≡ 0 → ⊥) → n ≤ 10000000 - sum → Judging accounts shorts a (sum + n) (i + 1)
   unfolding below total
   judging-next k d m =
-      record
-      { on-list = omega arith;
+      record {
+        on-list = omega arith;
         sum-most = omega (arith, j .sum-most);
         sum-is = rw (add-one i) (omega (arith, j .sum-is, ap total (drop-cons shorts i 0 h)));
-        rows-are = rw (add-one i) (past-six k d ∙ row-passes (ltb 10000000 (sum + n)) 7 below (le-ltb 10000000 (sum + n) (omega (arith, j .sum-most))))
+        rows-are = rw (add-one i) (past-six k d ∙ row-passes (ltb 10000000 (sum + n)) 7 below (le-ltb 10000000 (sum + n) (omega (arith, j .sum-most))));
       }
 
 pub judged-all : (accounts shorts : List ℕ) (before sum i : ℕ) → length accounts ≡ length shorts → Judging accounts shorts before sum i → length shorts ≤ i → (accepted ≡ first (positionRows 0 0 accounts shorts)) × (sum ≡ total shorts)

@@ -1,6 +1,10 @@
+-- Laws that the proofs of src/ cite.
+mod ListLaws
 mod StretchLaws
 mod PartLaws
 mod RunLaws
-mod ListLaws
 mod TurnLaws
+mod JudgedLaws
 mod JudgingLaws
+mod ProductLaws
+mod RoundTwoLaws

@@ -4,4 +4,5 @@ mod lists;
 mod lottery;
 mod millionths;
 mod places;
+mod pro_rata;
 mod wheel;

@@ -5,5 +5,6 @@ pub mod SumLaws
 pub mod PlaceLaws
 pub mod WheelLaws
 pub mod LotteryLaws
+pub mod ProRataLaws
 pub mod AcceptedLaws
 pub mod CallLaws

@@ -1,0 +1,83 @@
+-- At least `left` positions have `low` or more, and fewer have `low + width` or more. The measure is the width.
+use Prim.Native.Nat.{suc, _+_, _-_, _/_, _≤_, _<_}
+use mathlib.Core.Path.{_≡_, ap}
+use native.Mathlib.Omega.{arith}
+use lib.ListN.{length}
+use Rattle.series.proofs.ProRataLaws.{atLeast, atLeast-parts, atLeast-all, atLeast-none, larger-next}
+use Rattle.allocation.specs.ProRata.{at}
+use Rattle.allocation.proofs.pro_rata.cut_off.Statement.{statement}
+use Rattle.allocation.proofs.pro_rata.cut_off.Tie as tie
+
+abbrev Inv-loop : tie.InvT-loop
+Inv-loop parts left low₀ width₀ low width = (0 < width) × (low + width ≤ 100000) × (left ≤ atLeast (at parts) low (length parts)) × (atLeast (at parts) (low + width) (length parts) < left)
+
+abbrev μ-loop : tie.MeasureT-loop
+μ-loop parts left low₀ width₀ low width = width
+
+returns : tie.Need-returns Inv-loop μ-loop
+returns c = omega arith
+
+loop-holds : tie.Need-loop-holds Inv-loop μ-loop
+loop-holds c = let d = at (c .before .before .args .parts .now) in
+    let n = length (c .before .before .args .parts .now) in
+    omega (arith, atLeast-all d n, atLeast-none d 100000 n (c .before .before .pre .five))
+
+add-at-least : tie.Need-add-at-least Inv-loop μ-loop
+add-at-least c = omega arith
+
+at-least-requires : tie.Need-at-least-requires Inv-loop μ-loop
+at-least-requires c κs = omega arith
+
+add-low : tie.Need-add-low Inv-loop μ-loop
+add-low c = omega arith
+
+sub-width : tie.Need-sub-width Inv-loop μ-loop
+sub-width c = omega arith
+
+loop-less : tie.Need-loop-less Inv-loop μ-loop
+loop-less c = omega arith
+
+loop-again : tie.Need-loop-again Inv-loop μ-loop
+loop-again c = let loop = c .before .before .before .loop in
+    let d = at (c .before .before .before .before .before .before .args .parts .now) in
+    let n = length (c .before .before .before .before .before .before .args .parts .now) in
+    let e : loop .low + loop .width / 2 + (loop .width - loop .width / 2) ≡ loop .low + loop .width = omega arith in
+    omega (arith, atLeast-parts d (loop .low + loop .width / 2) n, c .before .at-least .ensures, ap (λ x. atLeast d x n) e)
+
+loop-less-2 : tie.Need-loop-less-2 Inv-loop μ-loop
+loop-less-2 c = omega arith
+
+loop-again-2 : tie.Need-loop-again-2 Inv-loop μ-loop
+loop-again-2 c = let loop = c .before .before .before .loop in
+    let d = at (c .before .before .before .before .before .before .args .parts .now) in
+    let n = length (c .before .before .before .before .before .before .args .parts .now) in
+    omega (arith, atLeast-parts d (loop .low + loop .width / 2) n, c .before .at-least .ensures)
+
+returns-2 : tie.Need-returns-2 Inv-loop μ-loop
+returns-2 c = let loop = c .before .loop in
+    let d = at (c .before .before .before .before .args .parts .now) in
+    let n = length (c .before .before .before .before .args .parts .now) in
+    let e : loop .low + loop .width ≡ suc (loop .low) = omega arith in
+    record {
+      five = omega arith;
+      fewer = omega (arith, larger-next d (loop .low) n, ap (λ x. atLeast d x n) e);
+      enough = omega (arith, atLeast-parts d (loop .low) n);
+    }
+
+pub cut-off-spec : {M : Type 1} → statement M
+cut-off-spec =
+    tie.close
+    (tie.spec
+    Inv-loop
+    μ-loop
+    returns
+    loop-holds
+    add-at-least
+    at-least-requires
+    add-low
+    sub-width
+    loop-less
+    loop-again
+    loop-less-2
+    loop-again-2
+    returns-2)
