@@ -8,3 +8,4 @@ mod JudgedLaws
 mod JudgingLaws
 mod ProductLaws
 mod RoundTwoLaws
+mod AllocateLaws

@@ -6,6 +6,7 @@ use mathlib.Core.List.{List, _++_}
 use native.Mathlib.Omega.{arith}
 use native.Mathlib.Nat.{le-refl, mul-le-mul}
 use lib.Dec.{eqb, ltb}
+use lib.ListN.{length}
 use borrow.Author.Tests.{ltb-false, eqb-false}
 use Rattle.series.specs.Places.{total, OnWheel}
 use Rattle.series.specs.Lottery.{startingPlace}
@@ -24,7 +25,13 @@ not-outside n draw h =
     let parts = or-false (eqb draw 0) (ltb n draw) h in
     record { low = positive (eqb-false draw 0 (parts .0)); high = ltb-false n draw (parts .1) }
 
-draw-passes : (m : Method) (accounts shorts : List ℕ) (S draw room : ℕ) → verdict m accounts shorts S draw room ≡ accepted → first (drawRows m (total shorts) draw) ≡ accepted
+-- the output is at least as long as the list
+pub verdict-room : (m : Method) (accounts shorts : List ℕ) (S draw room : ℕ) → verdict m accounts shorts S draw room ≡ accepted → length shorts ≤ room
+unfolding verdict rows lengthRows
+verdict-room m accounts shorts S draw room h =
+    ltb-false _ _ (first-cons _ _ (first-cons _ _ (first-cons _ _ (first-cons _ _ h .1) .1) .1) .0)
+
+pub draw-passes : (m : Method) (accounts shorts : List ℕ) (S draw room : ℕ) → verdict m accounts shorts S draw room ≡ accepted → first (drawRows m (total shorts) draw) ≡ accepted
 unfolding verdict rows
 draw-passes m accounts shorts S draw room h =
     first-split (exercisedRows (total shorts) S) (drawRows m (total shorts) draw)
@@ -32,14 +39,14 @@ draw-passes m accounts shorts S draw room h =
     (first-split (lengthRows accounts shorts room) (positionRows 0 0 accounts shorts ++ (exercisedRows (total shorts) S ++ drawRows m (total shorts) draw)) h .1) .1) .1
 
 -- under W the draw is a place
-pub wheel-draw : (accounts shorts : List ℕ) (S draw room : ℕ) → verdict Wheel accounts shorts S draw room ≡ accepted → OnWheel (total shorts) draw
+pub wheel-draw : (T draw : ℕ) → first (drawRows Wheel T draw) ≡ accepted → OnWheel T draw
 unfolding drawRows
-wheel-draw accounts shorts S draw room h = not-outside (total shorts) draw (first-cons _ _ (draw-passes Wheel accounts shorts S draw room h) .0)
+wheel-draw T draw h = not-outside T draw (first-cons _ _ h .0)
 
 -- under L it is 1 to 10,000
-pub lottery-draw : (accounts shorts : List ℕ) (S draw room : ℕ) → verdict Lottery accounts shorts S draw room ≡ accepted → OnWheel 10000 draw
+pub lottery-draw : (T draw : ℕ) → first (drawRows Lottery T draw) ≡ accepted → OnWheel 10000 draw
 unfolding drawRows
-lottery-draw accounts shorts S draw room h = not-outside 10000 draw (first-cons _ _ (draw-passes Lottery accounts shorts S draw room h) .0)
+lottery-draw T draw h = not-outside 10000 draw (first-cons _ _ h .0)
 
 -- a draw of 1 to 10,000 leads to a place
 pub starting-on : (T draw : ℕ) → 0 < T → OnWheel 10000 draw → OnWheel T (startingPlace T draw)

@@ -1,15 +1,17 @@
 -- The wheel's marks as places at offsets, which rise and stay below T.
 use Prim.Native.Nat.{ℕ, zero, suc, _+_, _-_, _*_, _/_, _%_, _≤_, _<_}
 use mathlib.Core.Path.{_≡_, refl, sym, ap, ap₂, subst, _∙_}
+use mathlib.Core.Bool.{Bool, true, false, cond}
 use mathlib.Core.List.{List, [], _∷_, _++_}
 use native.Mathlib.Omega.{arith}
 use native.Mathlib.Nat.{le-refl, mul-le-mul-left, div-add-mod, mul-comm, mul-div-le, lt-mul-div-succ}
 use native.Mathlib.Decide.{decLt, decLe}
+use lib.Dec.{eqb}
 use lib.ListN.{length, getD, length-append}
 use borrow.Author.Tests.{eq-eqb, ne-eqb}
 use Rattle.series.specs.Places.{total, steps, marked, amounts, OnWheel, overPlaces}
 use Rattle.series.specs.Wheel.{ONE, blocks, interval, marks, wheelMarks, wheel}
-use Rattle.series.proofs.PlaceLaws.{steps-add, upFrom, length-upFrom, placesAt, length-places, places-append, run-places, Rising, rising-upFrom, rising-append, rising-more, over-cong, over-const, places-sum, places-share, places-most, places-once}
+use Rattle.series.proofs.PlaceLaws.{steps-add, upFrom, length-upFrom, placesAt, length-places, places-append, run-places, Rising, rising-upFrom, rising-append, rising-more, over-cong, over-const, places-sum, places-share, places-most, places-once, length-amounts}
 
 -- the offsets that n blocks of I and a last one of l mark, from offset a on, with skip interval k and reserve r
 unfoldable pub offsets : ℕ → ℕ → ℕ → ℕ → ℕ → ℕ → List ℕ
@@ -167,3 +169,11 @@ interval-short I T T1 hi ht h1 =
 
 pub length-wheelMarks : (I T S p : ℕ) → 0 < I → 0 < S → length (wheelMarks I T S p) ≡ S
 length-wheelMarks I T S p hi hs = ap length (wheel-places I T S p) ∙ length-places T (wheelOffsets I T S) p ∙ length-wheelOffsets I T S hi hs
+
+pub length-wheel : (I : ℕ) (hs : List ℕ) (S p : ℕ) → length (wheel I hs S p) ≡ length hs
+unfolding wheel
+length-wheel I hs S p = either (eqb S (total hs)) hs (amounts hs (wheelMarks I (total hs) S p)) (length-amounts hs (wheelMarks I (total hs) S p))
+  where
+    either : (b : Bool) (xs ys : List ℕ) → length ys ≡ length xs → length (cond b xs ys) ≡ length xs
+    either true xs ys e = refl
+    either false xs ys e = e

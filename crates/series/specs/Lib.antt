@@ -7,3 +7,4 @@ pub mod Lottery
 pub mod Refusals
 pub mod Answers
 pub mod Call
+pub mod Fair
