@@ -5,14 +5,14 @@ use mathlib.Core.List.{List, [], _++_}
 use native.Mathlib.Omega.{arith}
 use native.Mathlib.Nat.{zero-add, add-zero, add-assoc}
 use native.Mathlib.Decide.{decLe, decLt}
-use lib.ListN.{length, getD, take, drop, length-drop, replicate, length-replicate, getD-replicate}
-use lib.Seq.{getD-drop, ext-getD}
+use lib.ListN.{length, getD, take, drop, set, length-drop, replicate, length-replicate, getD-replicate}
+use lib.Seq.{getD-drop, ext-getD, drop-cons, set-split}
 use borrow.Rule.Slice.PartMut.{putMid}
 use Rattle.series.specs.Places.{total, before, last, steps, run, marked, amounts, OnWheel}
 use Rattle.series.specs.Lottery.{lottery}
 use Rattle.series.proofs.PlaceLaws.{steps-plain, steps-past, before-all, last-total, amount-at, length-amounts, run-plain, run-past, upFrom, marked-append, marked-upFrom}
 use Rattle.allocation.specs.Stretch.{overlap, Ends, Grown, OnList, Stands, Assigned, Small, Listed, Room, placeOf}
-use Rattle.allocation.proofs.StretchLaws.{last-is}
+use Rattle.allocation.proofs.StretchLaws.{last-is, Walk, walk-start, walk-inside, Growing, growing-start, grown-inside}
 use Rattle.allocation.proofs.PartLaws.{before-drop, part-is, put-is, grown-part}
 
 no-wrap : (b e q x T : ℕ) → x ≤ T → overlap b e q x ≡ overlap b e q x + overlap b e 0 (x - T)
@@ -105,7 +105,7 @@ stands-first hs place i p l on e =
     let in-list : i < length hs = ends-inside hs (0 + (place - 1)) i p l e (omega (arith, on .low, on .high)) in
     record { on = record { position = in-list; contract = e .inside in-list .0 }; place = omega (arith, e .reached, e .inside in-list .1, on .low) }
 
-position-most : (hs : List ℕ) (j : ℕ) → j < length hs → getD hs j 0 ≤ total hs
+pub position-most : (hs : List ℕ) (j : ℕ) → j < length hs → getD hs j 0 ≤ total hs
 position-most hs j h = omega (arith, last-is hs j, last-total hs j h)
 
 -- the part of the amounts has room for the part of the list
@@ -213,3 +213,34 @@ module _ (hs out cleared : List ℕ) (S p i passed : ℕ) (listed : Listed hs ou
   pub lottery-done : (new : List ℕ) → Assigned hs cleared new (run (total hs) S (placeOf hs i passed)) → new ≡ lottery hs S p
   unfolding lottery steps
   lottery-done new a = assigned-amounts hs out new (run (total hs) S p) (listed .lengths) (rw (ec, stands .place) at a)
+
+-- A run that ends in the position it begins in.
+module _ (hs : List ℕ) (a passed n : ℕ) (on : OnList hs a passed) (inside : n < getD hs a 0 - passed) where
+  own-first : getD (drop a hs) 0 0 ≡ getD hs a 0
+  own-first = getD-drop a hs 0 0 ∙ ap (λ k. getD hs k 0) (add-zero a)
+
+  own-walk : Walk (drop a hs) passed (passed + n) 0 passed n
+  own-walk = walk-start (drop a hs) passed n (omega (arith, on .contract, own-first))
+
+  own-part : 0 < length (drop a hs)
+  own-part = omega (arith, length-drop a hs, on .position)
+
+  pub stands-own : Stands hs n (placeOf hs a passed) a (passed + n)
+  stands-own =
+      rw add-zero at
+      (stands-part hs a passed n 0 (passed + n) 0 on (walk-inside (drop a hs) passed (passed + n) 0 passed n own-walk own-part (omega (arith, own-first))) (omega (arith, on .position)))
+
+  pub assigned-own : (out : List ℕ) → Small hs out → n ≤ total hs → Assigned hs out (set out a (getD out a 0 + n)) (run (total hs) n (placeOf hs a passed))
+  unfolding placeOf
+  assigned-own out small most =
+      let held : a < length out = omega (arith, on .position, small .lengths) in
+      let v : ℕ = getD out a 0 + n in
+      let first : getD (drop a out) 0 0 ≡ getD out a 0 = getD-drop a out 0 0 ∙ ap (λ k. getD out k 0) (add-zero a) in
+      let put : take a out ++ set (drop a out) 0 v ≡ set out a v = ap (λ zs. take a out ++ set zs 0 v) (drop-cons out a 0 held) ∙ sym (set-split out a v held) in
+      let part : Grown (drop a hs) (drop a out) (set (drop a out) 0 (getD (drop a out) 0 0 + n)) passed (passed + n) =
+      grown-inside (drop a hs) (drop a out) (drop a out) passed (passed + n) 0 passed n own-walk (growing-start (drop a hs) (drop a out) passed (passed + n)) own-part (omega (arith, length-drop a out)) (omega (arith, own-first)) in
+      let whole : Grown hs out (take a out ++ set (drop a out) 0 v) (before hs a + passed) (before hs a + (passed + n)) =
+      grown-part hs out (set (drop a out) 0 v) a passed (passed + n) (omega (arith, on .position)) (small .lengths) (rw first at part) in
+      assigned-part hs out (before hs a + passed) n (on-wheel hs a passed on) most (set out a v)
+      (omega (arith, inside, on .contract, last-is hs a, last-total hs a (on .position)))
+      (rw (put, ← add-assoc (before hs a) passed n) at whole)

@@ -93,8 +93,8 @@ pub fn seek(shorts: &[u32], place: Place) -> Cursor
     }
 }
 
-// Assigns count contracts from the cursor on, to the end of the list and then from the top; the cursor after them.
-pub fn assign_run(shorts: &[u32], amounts: &mut [u32], cursor: Cursor, count: Contracts) -> Cursor
+// Assigns count contracts from the cursor on: to the end of the list, and then from the top.
+fn assign_round(shorts: &[u32], amounts: &mut [u32], cursor: Cursor, count: Contracts) -> Cursor
     requires { ⌜ Small (now shorts) (now amounts) ⌝ }
     requires { ⌜ OnList (now shorts) (cursor .at) (cursor .passed .0) ⌝ }
     requires { ⌜ count .0 ≤ total (now shorts) ⌝ }
@@ -118,8 +118,28 @@ pub fn assign_run(shorts: &[u32], amounts: &mut [u32], cursor: Cursor, count: Co
     Cursor { at: top.at, passed }
 }
 
-// The cursor count contracts further on.
-pub fn skip_run(shorts: &[u32], cursor: Cursor, count: Contracts) -> Cursor
+// Assigns count contracts from the cursor on; the cursor after them. Most runs end in the position they begin in.
+pub fn assign_run(shorts: &[u32], amounts: &mut [u32], cursor: Cursor, count: Contracts) -> Cursor
+    requires { ⌜ Small (now shorts) (now amounts) ⌝ }
+    requires { ⌜ OnList (now shorts) (cursor .at) (cursor .passed .0) ⌝ }
+    requires { ⌜ count .0 ≤ total (now shorts) ⌝ }
+    ensures { λ r. ⌜ Stands (now (shorts .entry)) (count .0) (placeOf (now (shorts .entry)) (cursor .at) (cursor .passed .0)) (r .at) (r .passed .0) ⌝ }
+    ensures { λ r. ⌜ Assigned (now (shorts .entry)) (now (amounts .entry)) (now (amounts .exit)) (run (total (now (shorts .entry))) (count .0) (placeOf (now (shorts .entry)) (cursor .at) (cursor .passed .0))) ⌝ }
+{
+    let at = cursor.at;
+    let passed = cursor.passed;
+    if count.0 < shorts[at] - passed.0 {
+        amounts[at] += count.0;
+        return Cursor {
+            at,
+            passed: Contracts(passed.0 + count.0),
+        };
+    }
+    assign_round(shorts, amounts, cursor, count)
+}
+
+// Passes over count contracts from the cursor on: to the end of the list, and then from the top.
+fn skip_round(shorts: &[u32], cursor: Cursor, count: Contracts) -> Cursor
     requires { ⌜ OnList (now shorts) (cursor .at) (cursor .passed .0) ⌝ }
     requires { ⌜ count .0 ≤ total (now shorts) ⌝ }
     ensures { λ r. ⌜ Stands (now (shorts .entry)) (count .0) (placeOf (now (shorts .entry)) (cursor .at) (cursor .passed .0)) (r .at) (r .passed .0) ⌝ }
@@ -139,4 +159,21 @@ pub fn skip_run(shorts: &[u32], cursor: Cursor, count: Contracts) -> Cursor
     let top = pass(shorts, Contracts(0), left);
     let passed = top.passed;
     Cursor { at: top.at, passed }
+}
+
+// The cursor count contracts further on.
+pub fn skip_run(shorts: &[u32], cursor: Cursor, count: Contracts) -> Cursor
+    requires { ⌜ OnList (now shorts) (cursor .at) (cursor .passed .0) ⌝ }
+    requires { ⌜ count .0 ≤ total (now shorts) ⌝ }
+    ensures { λ r. ⌜ Stands (now (shorts .entry)) (count .0) (placeOf (now (shorts .entry)) (cursor .at) (cursor .passed .0)) (r .at) (r .passed .0) ⌝ }
+{
+    let at = cursor.at;
+    let passed = cursor.passed;
+    if count.0 < shorts[at] - passed.0 {
+        return Cursor {
+            at,
+            passed: Contracts(passed.0 + count.0),
+        };
+    }
+    skip_round(shorts, cursor, count)
 }
