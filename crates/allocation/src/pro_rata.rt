@@ -215,7 +215,7 @@ pub fn both_rounds(
     remainder
 }
 
-// The amounts under pro rata, in list order; hands back the contracts of round two.
+// The amounts under pro rata, in list order; hands back the contracts of round two. A short list has a short room for its decimal parts.
 pub fn assign(
     shorts: &[u32],
     total: Contracts,
@@ -227,7 +227,11 @@ pub fn assign(
     ensures handed { λ r. ⌜ r .0 ≡ remainder (now (shorts .entry)) (exercised .0) ⌝ }
     ensures written { λ r. ⌜ now (amounts .exit) ≡ proRata (now (shorts .entry)) (exercised .0) draw ⌝ }
 {
-    let mut parts = [0u32; 4096];
     let n = shorts.len();
+    if n <= 128 {
+        let mut parts = [0u32; 128];
+        return both_rounds(shorts, total, exercised, draw, amounts, &mut parts[..n]);
+    }
+    let mut parts = [0u32; 4096];
     both_rounds(shorts, total, exercised, draw, amounts, &mut parts[..n])
 }
