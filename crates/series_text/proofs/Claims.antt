@@ -1,0 +1,150 @@
+-- Document 01's case M and its refusals, proved of the definitions by computation.
+use Prim.Native.Nat.{ℕ, zero, suc}
+use Prim.Native.String.{String}
+use mathlib.Core.Path.{_≡_, refl}
+use mathlib.Core.List.{List, [], _∷_, _++_, map}
+use lib.ListN.{length, drop, replicate}
+use Rattle.series.specs.declared.Method.the-variants.{Lottery}
+use Rattle.series_text.specs.Ascii.{ascii}
+use Rattle.series_text.specs.Results.{Result, refused, value}
+use Rattle.series_text.specs.Numbers.{digit, digits, spelled, amountFrom, amount, numeral, number, decimalIn, decimal}
+use Rattle.series_text.specs.Text.{Text, Position, Series, termsNames, positionNames, after, ends, field, past, fieldBy, numberBy, letter, methodBy, method, readTerms, readPosition, readPositions, readHead, readText, writeNumber, writeTerms, writePosition, writePositions, writeText}
+
+-- the line `unfolding` names every definition that reading computes with
+reading : Text → Result Series
+unfolding digit digits spelled amountFrom amount numeral number termsNames positionNames after ends field past fieldBy numberBy letter methodBy method readTerms readPosition readPositions readHead readText ascii
+reading s = readText s
+
+abbrev position : ℕ → ℕ → Position
+position a h = record { account = a; short = h }
+
+-- case M
+pub M : Series
+M =
+    record {
+      terms = record { method = Lottery; exercised = 13; draw = 4855 };
+      positions = position 1 5 ∷ position 2 8 ∷ position 3 2 ∷ position 4 10 ∷ position 5 11 ∷ [];
+    }
+
+pub M-text : Text
+M-text = ascii "method,exercised,draw\nL,13,4855\naccount,short\n1,5\n2,8\n3,2\n4,10\n5,11\n"
+
+pub M-read : readText M-text ≡ value M
+unfolding reading M M-text
+M-read = refl
+
+pub M-written : writeText M ≡ M-text
+unfolding M M-text ascii decimalIn decimal letter termsNames positionNames writeNumber writeTerms writePosition writePositions writeText
+M-written = refl
+
+-- n times the text t
+pub repeated : ℕ → Text → Text
+repeated zero t = []
+repeated (suc n) t = t ++ repeated n t
+
+-- lines 1 to 3, as they should be
+pub head : Text
+head = ascii "method,exercised,draw\nW,1,1\naccount,short\n"
+
+-- a text and the number of its refusal, 0 where it is read
+pub record Row : Type 0 where
+  pub number : ℕ
+  pub text : Text
+
+-- a text from its first line on
+abbrev whole : ℕ → String → Row
+whole n s = record { number = n; text = ascii s }
+
+-- a text after a good line 1
+abbrev terms : ℕ → String → Row
+terms n s = record { number = n; text = termsNames ++ ascii s }
+
+-- a text after three good lines
+abbrev lines : ℕ → String → Row
+lines n s = record { number = n; text = head ++ ascii s }
+
+-- a text after three good lines and 1,024 good position lines
+abbrev most : ℕ → String → Row
+most n s = record { number = n; text = head ++ (repeated 1024 (ascii "1,1\n") ++ ascii s) }
+
+-- n bytes, after the text s
+abbrev long : ℕ → Text → ℕ → Row
+long r s n = record { number = r; text = s ++ replicate n 49 }
+
+pub texts : List Row
+texts =
+    -- read: no positions, the largest number, zero, 1,024 positions
+    lines 0 "" ∷
+    lines 0 "4294967295,0\n" ∷
+    terms 0 "P,0,4294967295\naccount,short\n0,0\n" ∷
+    most 0 "" ∷
+    -- 32,769 bytes, whatever they are; 32,768 bytes are judged by their lines
+    long 11 [] 32769 ∷
+    long 11 head 32727 ∷
+    long 13 head 32726 ∷
+    long 12 [] 32768 ∷
+    -- line 1: missing, a carriage return, no byte 10, another name
+    whole 12 "" ∷
+    whole 12 "method,exercised,draw\r\nW,1,1\naccount,short\n" ∷
+    whole 12 "method,exercised,draw" ∷
+    whole 12 "method,exercised,drew\nW,1,1\naccount,short\n" ∷
+    -- line 3: missing, no byte 10, a carriage return, another name
+    terms 12 "W,1,1\n" ∷
+    terms 12 "W,1,1\naccount,short" ∷
+    terms 12 "W,1,1\naccount,short\r\n1,1\n" ∷
+    terms 12 "W,1,1\naccount,shorts\n1,1\n" ∷
+    -- line 2: missing, empty, two fields, four fields, no byte 10
+    terms 13 "" ∷
+    terms 13 "\naccount,short\n" ∷
+    terms 13 "W,1\naccount,short\n" ∷
+    terms 13 "W,1,1,1\naccount,short\n" ∷
+    terms 13 "W,1,1" ∷
+    -- an unknown method with a field missing; line 2 and line 3 both faulty
+    terms 13 "X,1\naccount,short\n" ∷
+    terms 13 "W,1,x\naccount,shorts\n" ∷
+    -- the method: unknown, a small letter, missing, two letters, unknown with a malformed number or empty fields and a faulty line 3
+    terms 14 "X,1,1\naccount,short\n" ∷
+    terms 14 "w,1,1\naccount,short\n" ∷
+    terms 14 ",1,1\naccount,short\n" ∷
+    terms 14 "WW,1,1\naccount,short\n" ∷
+    terms 14 "X,01,1\naccount,short\n" ∷
+    terms 14 "X,,\naccount\n" ∷
+    -- a number of line 2: empty, a leading zero, 00, one above the largest, a sign, a space, a carriage return
+    terms 13 "W,,1\naccount,short\n" ∷
+    terms 13 "W,01,1\naccount,short\n" ∷
+    terms 13 "W,1,00\naccount,short\n" ∷
+    terms 13 "W,4294967296,1\naccount,short\n" ∷
+    terms 13 "W,-1,1\naccount,short\n" ∷
+    terms 13 "W, 1,1\naccount,short\n" ∷
+    terms 13 "W,1,1\r\naccount,short\n" ∷
+    -- a position line: empty, one number, three numbers, the last one without byte 10, empty fields
+    lines 13 "\n" ∷
+    lines 13 "1,1\n\n" ∷
+    lines 13 "1\n" ∷
+    lines 13 "1,1,1\n" ∷
+    lines 13 "1,1\n2,2" ∷
+    lines 13 ",\n" ∷
+    lines 13 "1,\n" ∷
+    -- leading zeros, one above the largest, eleven digits, a carriage return, a letter after good lines
+    lines 13 "00,1\n" ∷
+    lines 13 "1,01\n" ∷
+    lines 13 "4294967296,1\n" ∷
+    lines 13 "1,42949672950\n" ∷
+    lines 13 "1,1\r\n" ∷
+    lines 13 "1,1\n2,2\n3,x\n" ∷
+    -- a 1,025th line, also where it is malformed
+    most 15 "1,1\n" ∷
+    most 15 "x" ∷
+    most 15 "\n" ∷ []
+
+-- the number of the refusal that each text meets, 0 where it is read
+pub numbers : List Row → List ℕ
+numbers rows = map (λ r. refusal (readText (r .text))) rows
+  where
+    refusal : Result Series → ℕ
+    refusal (refused n) = n
+    refusal (value t) = 0
+
+pub judged : numbers texts ≡ map (λ r. r .number) texts
+unfolding numbers reading ascii termsNames repeated head texts
+judged = refl

@@ -1,0 +1,180 @@
+-- Laws of bytes that are put into a text.
+use Prim.Native.Nat.{ℕ, zero, suc, _+_, _/_, _%_, _≤_, _<_}
+use mathlib.Core.Path.{_≡_, refl, sym, ap, _∙_}
+use mathlib.Core.List.{List, [], _∷_, _++_, append-assoc, append-nil}
+use native.Mathlib.Omega.{arith}
+use native.Mathlib.Nat.{zero-add, add-zero, add-assoc}
+use native.Mathlib.Numerals.{add-one}
+use lib.ListN.{length, getD, take, drop, set, length-append, length-drop, length-set, take-append-drop}
+use lib.Seq.{paste, take-length, drop-length, take-suc, drop-drop, take-paste, drop-paste, length-paste, set-split, set-at, length-take-le, drop-cons, append-snoc}
+use Rattle.series_text.specs.Calls.{onto, positionsOf}
+use Rattle.series_text.specs.Parts.{placed, Put}
+use Rattle.series_text.specs.Numbers.{decimal}
+use Rattle.series_text.specs.Text.{COMMA, NEWLINE, Terms, Position, letter, writeNumber, writeTerms, writePosition, writePositions}
+use Rattle.series_text.proofs.CopyLaws.{CopiedTo}
+use Rattle.series_text.proofs.DecimalLaws.{LeftOf, left-start, left-digit, left-more}
+use Rattle.series_text.proofs.PositionLaws.{firstLines, lineAt, first-more, first-within}
+
+placed-paste : (vs : List ℕ) (at : ℕ) (old : List ℕ) → placed vs at old ≡ paste old at vs (length vs)
+unfolding placed
+placed-paste vs at old = rw take-length
+
+pub length-placed : (vs : List ℕ) (at : ℕ) (old : List ℕ) → at + length vs ≤ length old → length (placed vs at old) ≡ length old
+length-placed vs at old fits = rw placed-paste (length-paste old at vs (length vs) fits (omega arith))
+
+-- nothing is put
+pub placed-nil : (at : ℕ) (old : List ℕ) → placed [] at old ≡ old
+unfolding placed
+placed-nil at old = rw (add-zero, append-nil) (take-append-drop at old)
+
+-- bytes that are put at the start
+pub placed-onto : (vs old : List ℕ) → placed vs 0 old ≡ onto vs old
+unfolding placed onto
+placed-onto vs old = rw zero-add
+
+-- bytes that are put after others
+pub placed-placed : (vs ws : List ℕ) (at : ℕ) (old : List ℕ) → at + length vs ≤ length old → placed ws (at + length vs) (placed vs at old) ≡ placed (vs ++ ws) at old
+unfolding placed
+placed-placed vs ws at old fits =
+    let n : ℕ = length vs in
+    let p : List ℕ = placed vs at old in
+    let le : at ≤ length old = omega arith in
+    let front : take (at + n) p ≡ take at old ++ vs = rw (placed-paste vs at old, take-paste old at vs n le (omega arith), take-length) in
+    let same : drop (at + n) p ≡ drop (at + n) old = rw (placed-paste vs at old) (drop-paste old at vs n le (omega arith)) in
+    let back : drop (at + n + length ws) p ≡ drop (at + n + length ws) old
+    = sym (drop-drop (length ws) (at + n) p) ∙ ap (drop (length ws)) same ∙ drop-drop (length ws) (at + n) old in
+    let total : at + n + length ws ≡ at + length (vs ++ ws) = rw length-append (omega arith) in
+    ap (λ (l : List ℕ). l ++ ws ++ drop (at + n + length ws) p) front
+    ∙ ap (λ (l : List ℕ). take at old ++ vs ++ ws ++ l) back
+    ∙ ap (λ (k : ℕ). take at old ++ vs ++ ws ++ drop k old) total
+    ∙ ap (λ (l : List ℕ). l ++ drop (at + length (vs ++ ws)) old) (append-assoc (take at old) vs ws)
+
+-- a byte that is put in front of others
+pub placed-front : (b : ℕ) (vs : List ℕ) (at : ℕ) (old : List ℕ) → at + suc (length vs) ≤ length old → set (placed vs (at + 1) old) at b ≡ placed (b ∷ vs) at old
+unfolding placed
+placed-front b vs at old fits =
+    let lt : at < length old = omega arith in
+    let total : at + 1 + length vs ≡ at + suc (length vs) = omega arith in
+    let rest : List ℕ = vs ++ drop (at + suc (length vs)) old in
+    let more : take (at + 1) old ≡ take at old ++ (getD old at 0 ∷ []) = rw add-one (take-suc old at 0 lt) in
+    let split : placed vs (at + 1) old ≡ take at old ++ (getD old at 0 ∷ rest)
+    = ap (λ (k : ℕ). take (at + 1) old ++ vs ++ drop k old) total
+    ∙ append-assoc (take (at + 1) old) vs (drop (at + suc (length vs)) old)
+    ∙ ap (λ (l : List ℕ). l ++ rest) more
+    ∙ append-assoc (take at old) (getD old at 0 ∷ []) rest in
+    ap (λ (l : List ℕ). set l at b) split
+    ∙ set-at (take at old) (getD old at 0) rest b at (length-take-le at old (omega arith))
+    ∙ sym (append-assoc (take at old) (b ∷ vs) (drop (at + suc (length vs)) old))
+
+-- a byte that is put
+pub placed-byte : (b : ℕ) (at : ℕ) (old : List ℕ) → at < length old → set old at b ≡ placed (b ∷ []) at old
+unfolding placed
+placed-byte b at old lt = rw add-one (set-split old at b lt ∙ sym (append-snoc (take at old) b (drop (suc at) old)))
+
+-- ---- what a function that puts bytes hands back
+
+-- the bytes are put one after the other
+pub put-append : (vs ws old : List ℕ) (at : ℕ) (mid new : List ℕ) (i j : ℕ) → at + length vs ≤ length old → Put vs old at mid i → Put ws mid i new j → Put (vs ++ ws) old at new j
+put-append vs ws old at mid new i j fits p q =
+    record {
+      text = rw (q .text, p .after, p .text) (placed-placed vs ws at old fits);
+      after = rw (q .after, p .after, length-append) (omega arith);
+    }
+
+-- a text that has bytes put into it keeps its length
+pub put-length : (vs old : List ℕ) (at : ℕ) (new : List ℕ) (i : ℕ) → at + length vs ≤ length old → Put vs old at new i → length new ≡ length old
+put-length vs old at new i fits p = rw (p .text) (length-placed vs at old fits)
+
+pub put-nil : (old : List ℕ) (at : ℕ) → Put [] old at old at
+put-nil old at = record { text = sym (placed-nil at old); after = omega arith }
+
+pub put-byte : (b : ℕ) (old : List ℕ) (at : ℕ) → at < length old → Put (b ∷ []) old at (set old at b) (at + 1)
+put-byte b old at lt = record { text = placed-byte b at old lt; after = refl }
+
+-- a copy of a whole line
+pub put-copied : (vs old : List ℕ) (at n : ℕ) (new : List ℕ) → n ≡ length vs → CopiedTo vs old at n new → Put vs old at new (at + n)
+put-copied vs old at n new is so = record { text = rw (so .list, is, placed-paste vs at old); after = rw is }
+
+-- ---- the digits of a number, from the last to the first
+
+-- what the loop keeps: the digits of n from index i on are put, which makes the text new, and the first i are those of rest
+pub record DigitsPut (n : ℕ) (old : List ℕ) (at : ℕ) (new : List ℕ) (i rest : ℕ) : Type 0 where
+  pub within : i ≤ length (decimal n)
+  pub left : LeftOf n i rest
+  pub text : new ≡ placed (drop i (decimal n)) (at + i) old
+  pub long : length new ≡ length old
+
+pub digits-start : (n : ℕ) (old : List ℕ) (at i : ℕ) → i ≡ length (decimal n) → DigitsPut n old at old i n
+digits-start n old at i is =
+    record {
+      within = omega arith;
+      left = rw is (left-start n);
+      text = rw (is, drop-length) (sym (placed-nil (at + length (decimal n)) old));
+      long = refl;
+    }
+
+pub digits-more : (n : ℕ) (old : List ℕ) (at : ℕ) (new : List ℕ) (i rest j : ℕ) → i ≡ suc j → at + length (decimal n) ≤ length old → DigitsPut n old at new i rest
+    → DigitsPut n old at (set new (at + j) (48 + rest % 10)) j (rest / 10)
+digits-more n old at new i rest j is fits so =
+    let left : LeftOf n (suc j) rest = rw is at (so .left) in
+    let index : at + suc j ≡ at + j + 1 = omega arith in
+    let room : at + j + suc (length (drop (suc j) (decimal n))) ≤ length old = rw length-drop (omega (arith, so .within)) in
+    record {
+      within = omega (arith, so .within);
+      left = left-more n j rest left;
+      text = rw (so .text, is, index, left-digit n j rest left) (placed-front (48 + rest % 10) (drop (suc j) (decimal n)) (at + j) old room);
+      long = length-set new (at + j) (48 + rest % 10) ∙ so .long;
+    }
+
+-- all digits are put, and then the byte that ends the field
+pub digits-end : (n c : ℕ) (old : List ℕ) (at : ℕ) (new : List ℕ) (i rest k : ℕ) → i ≡ 0 → k ≡ length (decimal n) → at + length (decimal n) < length old → DigitsPut n old at new i rest
+    → Put (writeNumber n c) old at (set new (at + k) c) (at + k + 1)
+unfolding writeNumber
+digits-end n c old at new i rest k is many fits so =
+    let all : Put (decimal n) old at new (at + k) = record { text = so .text ∙ rw (is, add-zero); after = rw many } in
+    put-append (decimal n) (c ∷ []) old at new (set new (at + k) c) (at + k) (at + k + 1) (omega arith) all (put-byte c new (at + k) (omega (arith, so .long)))
+
+-- ---- the lines
+
+-- a position line: its account and then its short
+pub put-position : (p : Position) (old : List ℕ) (at : ℕ) (mid new : List ℕ) (i j : ℕ) → at + length (writePosition p) ≤ length old
+    → Put (writeNumber (p .account) COMMA) old at mid i → Put (writeNumber (p .short) NEWLINE) mid i new j → Put (writePosition p) old at new j
+unfolding writePosition
+put-position p old at mid new i j fits a h =
+    put-append (writeNumber (p .account) COMMA) (writeNumber (p .short) NEWLINE) old at mid new i j
+    (omega (arith, length-append (writeNumber (p .account) COMMA) (writeNumber (p .short) NEWLINE))) a h
+
+-- line 2: the letter and a comma, S and then the draw
+pub put-terms : (t : Terms) (old : List ℕ) (at : ℕ) (mid new : List ℕ) (i j : ℕ) → at + length (writeTerms t) ≤ length old
+    → Put (writeNumber (t .exercised) COMMA) (set (set old at (letter (t .method))) (at + 1) COMMA) (at + 2) mid i → Put (writeNumber (t .draw) NEWLINE) mid i new j → Put (writeTerms t) old at new j
+unfolding writeTerms
+put-terms t old at mid new i j fits a h =
+    let l : ℕ = letter (t .method) in
+    let S : List ℕ = writeNumber (t .exercised) COMMA in
+    let draw : List ℕ = writeNumber (t .draw) NEWLINE in
+    let total : length (S ++ draw) ≡ length S + length draw = length-append S draw in
+    let second : at + 1 < length (set old at l) = rw length-set (omega arith) in
+    let two = put-append (l ∷ []) (COMMA ∷ []) old at (set old at l) (set (set old at l) (at + 1) COMMA) (at + 1) (at + 1 + 1) (omega arith)
+    (put-byte l old at (omega arith)) (put-byte COMMA (set old at l) (at + 1) second) in
+    let both : Put (l ∷ COMMA ∷ []) old at (set (set old at l) (at + 1) COMMA) (at + 2) = record { text = two .text; after = refl } in
+    let more = put-append (l ∷ COMMA ∷ []) S old at (set (set old at l) (at + 1) COMMA) mid (at + 2) i (omega arith) both a in
+    put-append (l ∷ COMMA ∷ S) draw old at mid new i j (omega arith) more h
+
+-- one more position line
+pub put-lines-more : (accounts shorts old : List ℕ) (from i : ℕ) (mid new : List ℕ) (at next : ℕ) → length accounts ≡ length shorts → i < length accounts
+    → from + length (writePositions (positionsOf accounts shorts)) ≤ length old
+    → Put (firstLines accounts shorts i) old from mid at → Put (lineAt accounts shorts i) mid at new next → Put (firstLines accounts shorts (i + 1)) old from new next
+put-lines-more accounts shorts old from i mid new at next same lt fits p q =
+    let within : length (firstLines accounts shorts i) ≤ length (writePositions (positionsOf accounts shorts)) = first-within accounts shorts i same (omega arith) in
+    rw (first-more accounts shorts i same lt)
+    (put-append (firstLines accounts shorts i) (lineAt accounts shorts i) old from mid new at next (omega arith) p q)
+
+-- there is room for it
+pub line-room : (accounts shorts old : List ℕ) (from i : ℕ) (mid : List ℕ) (at : ℕ) → length accounts ≡ length shorts → i < length accounts
+    → from + length (writePositions (positionsOf accounts shorts)) ≤ length old
+    → Put (firstLines accounts shorts i) old from mid at → at + length (lineAt accounts shorts i) ≤ length old
+line-room accounts shorts old from i mid at same lt fits p =
+    let within : length (firstLines accounts shorts (i + 1)) ≤ length (writePositions (positionsOf accounts shorts)) = first-within accounts shorts (i + 1) same (omega arith) in
+    let more : length (firstLines accounts shorts (i + 1)) ≡ length (firstLines accounts shorts i) + length (lineAt accounts shorts i)
+    = ap length (first-more accounts shorts i same lt) ∙ length-append (firstLines accounts shorts i) (lineAt accounts shorts i) in
+    omega (arith, p .after)

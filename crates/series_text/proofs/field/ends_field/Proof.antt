@@ -1,0 +1,15 @@
+use Rattle.series_text.specs.Text.{ends}
+use borrow.Author.Tests.{eq-eqb, ne-eqb}
+use Rattle.series_text.proofs.field.ends_field.Statement.{statement}
+use Rattle.series_text.proofs.field.ends_field.Tie as tie
+
+returns : tie.Need-returns
+unfolding ends
+returns c = rw (c .if1 .taken)
+
+returns-2 : tie.Need-returns-2
+unfolding ends
+returns-2 c = rw (ends, ne-eqb _ _ (c .if1 .left))
+
+pub ends-field-spec : {M : Type 1} → statement M
+ends-field-spec = tie.close (tie.spec returns returns-2)

@@ -1,0 +1,51 @@
+-- How a number is written: digits only, no leading zero, at most 4,294,967,295.
+use Prim.Native.Nat.{ℕ, zero, suc, _+_, _-_, _*_, _/_, _%_}
+use mathlib.Core.Bool.{Bool, true, false, not, _&&_, cond}
+use mathlib.Core.List.{List, [], _∷_, _++_}
+use lib.Dec.{eqb, ltb, leb}
+use Rattle.series_text.specs.Results.{Result, refuse}
+
+-- the largest number
+abbrev pub LARGEST : ℕ
+LARGEST = 4294967295
+
+-- the byte is a digit
+unfoldable pub digit : ℕ → Bool
+digit b = leb 48 b && leb b 57
+
+-- digits only
+unfoldable pub digits : List ℕ → Bool
+digits [] = true
+digits (b ∷ f) = digit b && digits f
+
+-- how digits may spell a number: at least one, and no zero in front of others
+unfoldable pub spelled : List ℕ → Bool
+spelled [] = false
+spelled (b ∷ []) = true
+spelled (b ∷ c ∷ f) = not (eqb b 48)
+
+-- the number whose digits are those of n followed by f
+unfoldable pub amountFrom : ℕ → List ℕ → ℕ
+amountFrom n [] = n
+amountFrom n (b ∷ f) = amountFrom (n * 10 + (b - 48)) f
+
+-- the number that digits stand for
+unfoldable pub amount : List ℕ → ℕ
+amount f = amountFrom 0 f
+
+-- the field f is a number
+unfoldable pub numeral : List ℕ → Bool
+numeral f = digits f && (spelled f && leb (amount f) LARGEST)
+
+-- the number that the field f is, else 13
+unfoldable pub number : List ℕ → Result ℕ
+number f = refuse (not (numeral f)) 13 (amount f)
+
+-- the digits of n, no leading zero, where they are at most k
+unfoldable pub decimalIn : ℕ → ℕ → List ℕ
+decimalIn zero n = []
+decimalIn (suc k) n = cond (ltb n 10) ((48 + n) ∷ []) (decimalIn k (n / 10) ++ ((48 + n % 10) ∷ []))
+
+-- the digits of n, of which a number of 32 bits has at most ten
+unfoldable pub decimal : ℕ → List ℕ
+decimal n = decimalIn 10 n

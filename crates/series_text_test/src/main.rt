@@ -1,0 +1,160 @@
+// Reads and rewrites texts, and prints what it got. A lent list holds 7s before the call, an output dots.
+use libc::STDOUT_FILENO;
+use series::Contracts;
+use series::Method;
+use series::Refusal;
+use series_text::Reading;
+use series_text::Writing;
+
+fn print(bytes: &[u8]) {
+    io::write_all(STDOUT_FILENO, bytes);
+}
+
+fn print_number(n: u64) {
+    io::print_decimal(STDOUT_FILENO, n);
+    print(b" ");
+}
+
+// A list and the end of the line.
+fn print_list(list: &[u32]) {
+    let mut i = 0;
+    while i < list.len() {
+        print_number(list[i] as u64);
+        i += 1;
+    }
+    print(b"\n");
+}
+
+fn print_method(method: Method) {
+    match method {
+        Method::Wheel => print(b"wheel "),
+        Method::ProRata => print(b"pro rata "),
+        Method::Lottery => print(b"starting number "),
+    }
+}
+
+fn print_refusal(refusal: Refusal) {
+    print(b"refused ");
+    print_number(series::number(refusal) as u64);
+    print(b"\n");
+}
+
+// Writes a series to an output of 96 bytes, and prints the answer and the whole output.
+fn rewrite(method: Method, exercised: Contracts, draw: u32, accounts: &[u32], shorts: &[u32]) {
+    let mut output = [b'.'; 96];
+    match series_text::write(method, exercised, draw, accounts, shorts, &mut output) {
+        Writing::Written(n) => {
+            print(b"written ");
+            print_number(n as u64);
+            print(b"\n");
+        }
+        Writing::Refused(refusal) => print_refusal(refusal),
+    }
+    print(&output);
+    print(b"\n");
+}
+
+// Rewrites the first n positions of two lists.
+fn rewrite_first(method: Method, exercised: Contracts, draw: u32, accounts: &[u32], shorts: &[u32], n: usize) {
+    if n > accounts.len() {
+        return;
+    }
+    if n > shorts.len() {
+        return;
+    }
+    rewrite(method, exercised, draw, &accounts[..n], &shorts[..n]);
+}
+
+// Reads a text into lists of 6, prints what they hold, and rewrites the series.
+fn reread(text: &[u8]) {
+    let mut accounts = [7u32; 6];
+    let mut shorts = [7u32; 6];
+    match series_text::read(text, &mut accounts, &mut shorts) {
+        Reading::Refused(refusal) => {
+            print_refusal(refusal);
+            print_list(&accounts);
+            print_list(&shorts);
+        }
+        Reading::Series { method, exercised, draw, positions } => {
+            print(b"read ");
+            print_method(method);
+            print_number(exercised.0 as u64);
+            print_number(draw as u64);
+            print_number(positions as u64);
+            print(b"\n");
+            print_list(&accounts);
+            print_list(&shorts);
+            rewrite_first(method, exercised, draw, &accounts, &shorts, positions);
+        }
+    }
+}
+
+// The texts that are read, and some that are refused, in the order of the numbers.
+fn texts() {
+    reread(b"method,exercised,draw\nL,13,4855\naccount,short\n1,5\n2,8\n3,2\n4,10\n5,11\n");
+    reread(b"method,exercised,draw\nW,175,340\naccount,short\n1,60\n2,200\n3,95\n");
+    reread(b"method,exercised,draw\nP,0,4294967295\naccount,short\n");
+    reread(b"method,exercised,draw\nP,4,0\naccount,short\n4294967295,0\n0,4294967295\n0,0\n");
+    reread(b"method,exercised,draw\nW,1,1\naccount,short\n1,1\n2,1\n3,1\n4,1\n5,1\n6,1\n");
+    reread(b"method,exercised,draw\nW,1,1\naccount,short\n1,1\n2,1\n3,1\n4,1\n5,1\n6,1\n7,1\n");
+    reread(b"method,exercised,draw\r\nW,1,1\naccount,short\n1,1\n");
+    reread(b"method,exercised,draw\nW,1,1\naccount,short");
+    reread(b"method,exercised,draw\nX,1\naccount,short\n");
+    reread(b"method,exercised,draw\nX,01,1\naccount,short\n");
+    reread(b"method,exercised,draw\nW,01,1\nshort,account\n");
+    reread(b"method,exercised,draw\nW,1,1\naccount,short\n1,1\n2,4294967296\n");
+    reread(b"method,exercised,draw\nW,1,1\naccount,short\n1,1\n2,2");
+    reread(b"method,exercised,draw\nW,1,1\naccount,short\n1,1\n\n");
+}
+
+// The byte at an index of a text that is a head and then lines `1,1`.
+fn byte_at(head: &[u8], i: usize) -> u8 {
+    if i < head.len() {
+        return head[i];
+    }
+    match (i - head.len()) % 4 {
+        1 => b',',
+        3 => b'\n',
+        _ => b'1',
+    }
+}
+
+// Fills a text so.
+fn fill(text: &mut [u8], head: &[u8]) {
+    let mut i = 0;
+    while i < text.len() {
+        text[i] = byte_at(head, i);
+        i += 1;
+    }
+}
+
+// Reads the first n bytes of a text.
+fn reread_first(text: &[u8], n: usize) {
+    if n <= text.len() {
+        reread(&text[..n]);
+    }
+}
+
+// Texts at the limits: 1,024 and 1,025 lines, the last one cut short, and 32,768 and 32,769 bytes.
+fn limits() {
+    let mut text = [0u8; 32769];
+    fill(&mut text, b"method,exercised,draw\nW,1,1\naccount,short\n");
+    reread_first(&text, 4138);
+    reread_first(&text, 4142);
+    reread_first(&text, 4139);
+    reread_first(&text, 32768);
+    reread_first(&text, 32769);
+}
+
+// What writing refuses.
+fn writings() {
+    rewrite(Method::Lottery, Contracts(13), 4855, &[1, 2, 3], &[5, 8]);
+    rewrite(Method::Wheel, Contracts(1), 1, &[1u32; 1025], &[1u32; 1025]);
+    rewrite(Method::ProRata, Contracts(4294967295), 4294967295, &[4294967295, 4294967295], &[4294967295, 4294967295]);
+}
+
+fn main() {
+    texts();
+    limits();
+    writings();
+}
