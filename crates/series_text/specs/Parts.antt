@@ -12,7 +12,7 @@ use Rattle.series_text.specs.Calls.{positionsOf}
 use Rattle.series_text.specs.declared.number.Field.{Field}
 use Rattle.series_text.specs.declared.field.Line.{Line}
 use Rattle.series_text.specs.declared.field.Found.{Found}
-use Rattle.series_text.specs.declared.lines.Named.{Named}
+use Rattle.series_text.specs.declared.Named.{Named}
 use Rattle.series_text.specs.declared.lines.TermsLine.{TermsLine}
 use Rattle.series_text.specs.declared.lines.Row.{Row}
 use Rattle.series_text.specs.declared.lines.Rows.{Rows}

@@ -9,6 +9,8 @@ ghost use mathlib.Core.Path.{_≡_};
 ghost use Prim.Native.Nat.{_≤_};
 ghost use mathlib.Core.List.{_++_};
 ghost use lib.ListN.{length, take, drop};
+ghost use Rattle.series_text.specs.Text.{letter, methodBy};
+ghost use Rattle.series_text.specs.Parts.{namedMeans};
 ghost use Rattle.series_text.specs.Calls.{readingOf, readInto, handed, accountsAfter, shortsAfter, writingOf, writeInto, lengthOf, textAfter};
 use lines::Rows;
 use lines::TermsLine;
@@ -17,6 +19,12 @@ use names::TERMS_NAMES;
 use series::Contracts;
 use series::Method;
 use series::Refusal;
+
+// The method that a letter names.
+pub enum Named {
+    Method(Method),
+    Unknown,
+}
 
 // What reading a text answers: the values of line 2 with the number of positions, or a refusal.
 pub enum Reading {
@@ -33,6 +41,33 @@ pub enum Reading {
 pub enum Writing {
     Written(usize),
     Refused(Refusal),
+}
+
+// The method of the letter W, P or L.
+pub fn method_by(letter: u8) -> Named
+    ensures { λ r. ⌜ namedMeans r ≡ methodBy letter ⌝ }
+{
+    if letter == b'W' {
+        return Named::Method(Method::Wheel);
+    }
+    if letter == b'P' {
+        return Named::Method(Method::ProRata);
+    }
+    if letter == b'L' {
+        return Named::Method(Method::Lottery);
+    }
+    Named::Unknown
+}
+
+// The letter of a method.
+pub fn letter_of(method: Method) -> u8
+    ensures { λ r. ⌜ r ≡ letter method ⌝ }
+{
+    match method {
+        Method::Wheel => b'W',
+        Method::ProRata => b'P',
+        Method::Lottery => b'L',
+    }
 }
 
 // Copies the first n elements of one list to another.

@@ -5,10 +5,12 @@ ghost use lib.ListN.{length, drop};
 ghost use lib.Seq.{slice};
 ghost use Rattle.series_text.specs.Text.{method as Text·method, readTerms, readHead, readPosition, readPositions, MOST};
 ghost use Rattle.series_text.specs.Parts.{namedMeans, termsMeans, rowMeans, rowsMeans, rowsWithin};
+use crate::Named;
 use crate::field::Found;
 use crate::field::Line;
 use crate::field::find_end;
 use crate::field::skip_line;
+use crate::method_by;
 use crate::names::POSITION_NAMES;
 use crate::names::TERMS_NAMES;
 use crate::number::Field;
@@ -16,12 +18,6 @@ use crate::number::read_number;
 use series::Contracts;
 use series::Method;
 use series::Refusal;
-
-// The method that a field names.
-pub enum Named {
-    Method(Method),
-    Unknown,
-}
 
 // The values of line 2, and the index after it.
 pub enum TermsLine {
@@ -59,17 +55,7 @@ fn read_method(text: &[u8], from: usize, to: usize) -> Named
     if bytes != 1 {
         return Named::Unknown;
     }
-    let letter = text[from];
-    if letter == b'W' {
-        return Named::Method(Method::Wheel);
-    }
-    if letter == b'P' {
-        return Named::Method(Method::ProRata);
-    }
-    if letter == b'L' {
-        return Named::Method(Method::Lottery);
-    }
-    Named::Unknown
+    method_by(text[from])
 }
 
 // Line 2 at an index: its fields first, then the method, then the numbers.

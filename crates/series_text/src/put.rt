@@ -3,9 +3,10 @@ ghost use mathlib.Core.Path.{_≡_};
 ghost use Prim.Native.Nat.{_+_, _≤_};
 ghost use lib.ListN.{length};
 ghost use Rattle.series_text.specs.Numbers.{decimal};
-ghost use Rattle.series_text.specs.Text.{MOST, letter, writeNumber, writeTerms, writePosition, writePositions};
+ghost use Rattle.series_text.specs.Text.{MOST, writeNumber, writeTerms, writePosition, writePositions};
 ghost use Rattle.series_text.specs.Calls.{positionsOf};
 ghost use Rattle.series_text.specs.Parts.{Put};
+use crate::letter_of;
 use series::Contracts;
 use series::Method;
 
@@ -63,17 +64,6 @@ pub fn positions_length(accounts: &[u32], shorts: &[u32]) -> usize
         i += 1;
     }
     sum
-}
-
-// The letter of a method.
-fn letter_of(method: Method) -> u8
-    ensures { λ r. ⌜ r ≡ letter method ⌝ }
-{
-    match method {
-        Method::Wheel => b'W',
-        Method::ProRata => b'P',
-        Method::Lottery => b'L',
-    }
 }
 
 // Puts a fixed line.

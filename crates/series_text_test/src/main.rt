@@ -55,7 +55,14 @@ fn rewrite(method: Method, exercised: Contracts, draw: u32, accounts: &[u32], sh
 }
 
 // Rewrites the first n positions of two lists.
-fn rewrite_first(method: Method, exercised: Contracts, draw: u32, accounts: &[u32], shorts: &[u32], n: usize) {
+fn rewrite_first(
+    method: Method,
+    exercised: Contracts,
+    draw: u32,
+    accounts: &[u32],
+    shorts: &[u32],
+    n: usize,
+) {
     if n > accounts.len() {
         return;
     }
@@ -75,7 +82,12 @@ fn reread(text: &[u8]) {
             print_list(&accounts);
             print_list(&shorts);
         }
-        Reading::Series { method, exercised, draw, positions } => {
+        Reading::Series {
+            method,
+            exercised,
+            draw,
+            positions,
+        } => {
             print(b"read ");
             print_method(method);
             print_number(exercised.0 as u64);
@@ -150,7 +162,13 @@ fn limits() {
 fn writings() {
     rewrite(Method::Lottery, Contracts(13), 4855, &[1, 2, 3], &[5, 8]);
     rewrite(Method::Wheel, Contracts(1), 1, &[1u32; 1025], &[1u32; 1025]);
-    rewrite(Method::ProRata, Contracts(4294967295), 4294967295, &[4294967295, 4294967295], &[4294967295, 4294967295]);
+    rewrite(
+        Method::ProRata,
+        Contracts(4294967295),
+        4294967295,
+        &[4294967295, 4294967295],
+        &[4294967295, 4294967295],
+    );
 }
 
 fn main() {

@@ -1,9 +1,9 @@
--- `put::letter_of` meets its contract. Assumes nothing.
+-- `letter_of` meets its contract. Assumes nothing.
 use mathlib.Core.Path.{sym, ap}
 use Rattle.series_text.specs.Text.{letter}
 use borrow.Author.Needs.{needs}
-use Rattle.series_text.proofs.put.letter_of.Statement.{statement}
-use Rattle.series_text.proofs.put.letter_of.Tie as tie
+use Rattle.series_text.proofs.letter_of.Statement.{statement}
+use Rattle.series_text.proofs.letter_of.Tie as tie
 
 enum-told : tie.Need-enum-told
 enum-told c = search needs
