@@ -1,0 +1,3 @@
+-- The text that the program prints for a text.
+pub mod Printed
+pub mod Responses
