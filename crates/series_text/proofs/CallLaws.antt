@@ -1,8 +1,8 @@
 -- Laws of the two calls: what each hands back and leaves, from what its parts answered.
-use Prim.Native.Nat.{ℕ, zero, suc, _+_, _-_, _≤_, _<_}
-use mathlib.Core.Path.{_≡_, refl, sym, ap, _∙_}
-use mathlib.Core.Bool.{Bool, true, false, _||_, or-true}
-use mathlib.Core.List.{List, [], _∷_, _++_, map, append-assoc}
+use Prim.Native.Nat.{ℕ, _+_, _≤_, _<_}
+use mathlib.Core.Path.{_≡_, ap, _∙_}
+use mathlib.Core.Bool.{true, _||_, or-true}
+use mathlib.Core.List.{List, _++_, append-assoc}
 use native.Mathlib.Omega.{arith}
 use native.Mathlib.Nat.{zero-add}
 use borrow.Author.Tests.{lt-ltb, le-ltb, eq-eqb, ne-eqb}
@@ -10,8 +10,8 @@ use lib.Dec.{ltb}
 use lib.ListN.{length, take, drop, length-append}
 use lib.Seq.{length-take-le}
 use Rattle.series_text.specs.Ascii.{ascii}
-use Rattle.series_text.specs.Results.{Result, refused, value, _>>=_, refuse}
-use Rattle.series_text.specs.Text.{Text, Read, Terms, Position, Series, MOST, termsNames, positionNames, readHead, readPositions, readText, writeTerms, writePositions, writeText}
+use Rattle.series_text.specs.Results.{Result, refused, value}
+use Rattle.series_text.specs.Text.{Text, Read, Terms, MOST, termsNames, positionNames, readHead, readPositions, readText, writeTerms, writePositions, writeText}
 use Rattle.series_text.specs.Calls.{Handed, readInto, handed, onto, accountsAfter, shortsAfter, positionsOf, writeInto, lengthOf, textAfter}
 use Rattle.series_text.specs.Parts.{Put}
 use Rattle.series_text.proofs.PutLaws.{placed-onto, put-append}

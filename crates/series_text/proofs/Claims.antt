@@ -3,12 +3,13 @@ use Prim.Native.Nat.{ℕ, zero, suc}
 use Prim.Native.String.{String}
 use mathlib.Core.Path.{_≡_, refl}
 use mathlib.Core.List.{List, [], _∷_, _++_, map}
-use lib.ListN.{length, drop, replicate}
+use lib.ListN.{replicate}
 use Rattle.series.specs.declared.Method.the-variants.{Lottery}
 use Rattle.series_text.specs.Ascii.{ascii}
 use Rattle.series_text.specs.Results.{Result, refused, value}
 use Rattle.series_text.specs.Numbers.{digit, digits, spelled, amountFrom, amount, numeral, number, decimalIn, decimal}
-use Rattle.series_text.specs.Text.{Text, Position, Series, termsNames, positionNames, after, ends, field, past, fieldBy, numberBy, letter, methodBy, method, readTerms, readPosition, readPositions, readHead, readText, writeNumber, writeTerms, writePosition, writePositions, writeText}
+use Rattle.series_text.specs.Text.{Text, Terms, Position, Series, termsNames, positionNames, after, ends, field, past, fieldBy, numberBy, letter, methodBy, method, readTerms, readPosition, readPositions, readHead, readText, writeNumber, writeTerms, writePosition, writePositions, writeText}
+use Rattle.series_text.specs.Calls.{readInto, positionsOf, writeInto}
 
 -- the line `unfolding` names every definition that reading computes with
 reading : Text → Result Series
@@ -148,3 +149,28 @@ numbers rows = map (λ r. refusal (readText (r .text))) rows
 pub judged : numbers texts ≡ map (λ r. r .number) texts
 unfolding numbers reading ascii termsNames repeated head texts
 judged = refl
+
+-- the definitions that writing computes with
+writing : Terms → List ℕ → List ℕ → ℕ → Result Text
+unfolding M M-text ascii decimalIn decimal letter termsNames positionNames writeNumber writeTerms writePosition writePositions writeText positionsOf writeInto
+writing t accounts shorts room = writeInto t accounts shorts room
+
+pub M-accounts : List ℕ
+M-accounts = 1 ∷ 2 ∷ 3 ∷ 4 ∷ 5 ∷ []
+
+pub M-shorts : List ℕ
+M-shorts = 5 ∷ 8 ∷ 2 ∷ 10 ∷ 11 ∷ []
+
+-- case M, 68 bytes: 1 before 15, 15 before 4, 4 where a byte is missing
+pub M-writing :
+    (writeInto (M .terms) (replicate 1025 1) (replicate 1024 1) 0 ≡ refused 1)
+    × (writeInto (M .terms) (replicate 1025 1) (replicate 1025 1) 0 ≡ refused 15)
+    × (writeInto (M .terms) M-accounts M-shorts 67 ≡ refused 4)
+    × (writeInto (M .terms) M-accounts M-shorts 68 ≡ value M-text)
+unfolding writing M-accounts M-shorts
+M-writing = (refl, refl, refl, refl)
+
+-- last of all 4: a lent list is shorter than the positions
+pub M-reading : (readInto M-text 4 5 ≡ refused 4) × (readInto M-text 5 4 ≡ refused 4) × (readInto M-text 5 5 ≡ value M)
+unfolding reading M M-text readInto
+M-reading = (refl, refl, refl)

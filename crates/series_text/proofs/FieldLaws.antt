@@ -1,15 +1,15 @@
 -- Laws of a field and of a line that are read byte by byte.
-use Prim.Native.Nat.{ℕ, zero, suc, _+_, _-_, _*_, _≤_, _<_}
+use Prim.Native.Nat.{ℕ, suc, _+_, _-_, _*_, _≤_, _<_}
 use mathlib.Core.Path.{_≡_, refl, sym, ap, _∙_}
-use mathlib.Core.Bool.{Bool, true, false, not, _&&_, _||_, cond, and-false, and-assoc}
-use mathlib.Core.List.{List, [], _∷_, _++_, append-assoc, append-nil}
+use mathlib.Core.Bool.{Bool, true, false, not, _&&_, cond, and-false, and-assoc}
+use mathlib.Core.List.{[], _∷_, _++_, append-assoc, append-nil}
 use native.Mathlib.Omega.{arith}
 use native.Mathlib.Numerals.{add-one}
 use borrow.Author.Tests.{lt-leb, le-leb, eq-eqb, ne-eqb}
-use lib.Dec.{eqb, ltb, leb}
+use lib.Dec.{eqb}
 use lib.ListN.{length, getD, take, drop, drop-of-length-le}
 use lib.Seq.{slice, slice-empty, slice-cons, take-suc, drop-cons, drop-append-le, length-take-le}
-use Rattle.series_text.specs.Results.{Result, refused, value, _>>=_, refuse}
+use Rattle.series_text.specs.Results.{Result, refused, value, _>>=_}
 use Rattle.series_text.specs.Numbers.{digit, digits, spelled, amountFrom, amount, numeral, number, LARGEST}
 use Rattle.series_text.specs.Text.{Text, Read, after, ends, field, past, fieldBy, numberBy}
 

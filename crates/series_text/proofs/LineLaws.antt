@@ -1,19 +1,16 @@
 -- Laws of the lines of a text, read one after the other.
 use Prim.Native.Nat.{ℕ, zero, suc, _+_, _-_, _≤_, _<_}
 use mathlib.Core.Path.{_≡_, refl, sym, ap, subst, _∙_}
-use mathlib.Core.Bool.{Bool, true, false, cond}
 use mathlib.Core.List.{List, [], _∷_, _++_, append-assoc, append-nil}
 use native.Mathlib.Omega.{arith}
 use borrow.Author.Tests.{lt-ltb, le-ltb}
 use native.Mathlib.Nat.{sub-zero}
-use lib.Dec.{eqb}
 use lib.ListN.{length, getD, take, drop, set, drop-of-length-le}
 use lib.Seq.{slice, slice-empty, slice-cons}
 use Rattle.series.specs.declared.Method.{Method}
-use Rattle.series.specs.declared.Method.the-variants.{Wheel, ProRata, Lottery}
 use Rattle.series_text.specs.Results.{Result, refused, value, _>>=_}
 use Rattle.series_text.specs.Numbers.{number}
-use Rattle.series_text.specs.Text.{Text, COMMA, NEWLINE, Read, Terms, Position, MOST, termsNames, positionNames, after, fieldBy, numberBy, letter, methodBy, method, readTerms, readHead, readPosition, readPositions}
+use Rattle.series_text.specs.Text.{Text, COMMA, NEWLINE, Read, Terms, Position, termsNames, positionNames, after, fieldBy, numberBy, methodBy, method, readTerms, readHead, readPosition, readPositions}
 use Rattle.series_text.specs.Calls.{positionsOf}
 use Rattle.series_text.specs.Parts.{foundMeans, foundWithin}
 use Rattle.series_text.specs.declared.field.Found.{Found}

@@ -1,6 +1,6 @@
 -- A number that is written reads back.
-use Prim.Native.Nat.{ℕ, zero, suc, _+_, _-_, _*_, _/_, _%_, _^_, _≤_, _<_}
-use mathlib.Core.Path.{_≡_, refl, sym, ap, _∙_}
+use Prim.Native.Nat.{ℕ, zero, suc, _+_, _*_, _/_, _%_, _^_, _≤_, _<_}
+use mathlib.Core.Path.{_≡_, refl, ap, _∙_}
 use mathlib.Core.Bool.{Bool, true, false, not, _&&_, false≢true}
 use mathlib.Core.List.{List, [], _∷_, _++_, append-assoc, append-nil}
 use native.Mathlib.Omega.{arith}
@@ -8,9 +8,9 @@ use native.Mathlib.Nat.{pow-suc}
 use native.Mathlib.Decide.{decLt}
 use borrow.Author.Tests.{le-leb, leb-true, ne-eqb}
 use lib.Dec.{eqb, leb}
-use Rattle.series_text.specs.Results.{Result, refused, value, _>>=_, refuse}
+use Rattle.series_text.specs.Results.{value}
 use Rattle.series_text.specs.Numbers.{LARGEST, digit, digits, spelled, amountFrom, amount, numeral, number, decimalIn, decimal}
-use Rattle.series_text.specs.Text.{Text, Read, ends, fieldBy, numberBy, writeNumber}
+use Rattle.series_text.specs.Text.{Text, ends, fieldBy, numberBy, writeNumber}
 use Rattle.series_text.proofs.FieldLaws.{prefixed, prefixed-nil, prefixed-prefixed, field-byte, field-end, ends-digit, digits-append, amount-more, numbered, numberBy-numbered}
 use Rattle.series_text.proofs.DecimalLaws.{decimal-small, decimal-large}
 

@@ -6,7 +6,7 @@ use mathlib.Core.List.{List, [], _∷_, _++_, append-assoc, append-nil}
 use native.Mathlib.Omega.{arith}
 use native.Mathlib.Nat.{add-zero, mul-comm, mul-assoc, mul-le-mul-right, pow-suc, pow-le-pow-right}
 use native.Mathlib.Decide.{decLt}
-use borrow.Author.Tests.{leb-true, eqb-true, not-true, not-false, ne-eqb, eqb-false}
+use borrow.Author.Tests.{leb-true, eqb-true, not-true, not-false, eqb-false}
 use lib.Dec.{eqb, leb, ltb}
 use lib.ListN.{length, drop}
 use Rattle.series.specs.declared.Method.{Method}

@@ -1,5 +1,5 @@
 -- Laws of the positions of two lists, and of their lines.
-use Prim.Native.Nat.{ℕ, zero, suc, _+_, _≤_, _<_}
+use Prim.Native.Nat.{ℕ, suc, _+_, _≤_, _<_}
 use mathlib.Core.Path.{_≡_, refl, sym, ap, _∙_}
 use mathlib.Core.List.{List, [], _∷_, _++_, map, append-assoc, append-nil}
 use native.Mathlib.Omega.{arith}
@@ -9,7 +9,6 @@ use lib.Seq.{take-suc, take-suc-set, take-all, length-take-le}
 use Rattle.series_text.specs.Numbers.{decimal}
 use Rattle.series_text.specs.Text.{Text, COMMA, NEWLINE, Terms, Position, writeNumber, writeTerms, writePosition, writePositions}
 use Rattle.series_text.specs.Calls.{positionsOf}
-use Rattle.series_text.proofs.DecimalLaws.{digits-few}
 
 pub accounts-of : (accounts shorts : List ℕ) → length accounts ≡ length shorts → map (λ p. p .account) (positionsOf accounts shorts) ≡ accounts
 unfolding positionsOf

@@ -1,12 +1,12 @@
 -- Laws of bytes that are put into a text.
-use Prim.Native.Nat.{ℕ, zero, suc, _+_, _/_, _%_, _≤_, _<_}
+use Prim.Native.Nat.{ℕ, suc, _+_, _/_, _%_, _≤_, _<_}
 use mathlib.Core.Path.{_≡_, refl, sym, ap, _∙_}
 use mathlib.Core.List.{List, [], _∷_, _++_, append-assoc, append-nil}
 use native.Mathlib.Omega.{arith}
-use native.Mathlib.Nat.{zero-add, add-zero, add-assoc}
+use native.Mathlib.Nat.{zero-add, add-zero}
 use native.Mathlib.Numerals.{add-one}
 use lib.ListN.{length, getD, take, drop, set, length-append, length-drop, length-set, take-append-drop}
-use lib.Seq.{paste, take-length, drop-length, take-suc, drop-drop, take-paste, drop-paste, length-paste, set-split, set-at, length-take-le, drop-cons, append-snoc}
+use lib.Seq.{paste, take-length, drop-length, take-suc, drop-drop, take-paste, drop-paste, length-paste, set-split, set-at, length-take-le, append-snoc}
 use Rattle.series_text.specs.Calls.{onto, positionsOf}
 use Rattle.series_text.specs.Parts.{placed, Put}
 use Rattle.series_text.specs.Numbers.{decimal}

@@ -1,21 +1,20 @@
 -- What writing wrote reads back as the same series: of the definitions, and of the two calls.
-use Prim.Native.Nat.{ℕ, zero, suc, _+_, _*_, _≤_, _<_}
+use Prim.Native.Nat.{ℕ, zero, suc, _*_, _≤_, _<_}
 use mathlib.Core.Path.{_≡_, refl, sym, ap, _∙_}
-use mathlib.Core.Bool.{Bool, true, false}
-use mathlib.Core.List.{List, [], _∷_, _++_, append-assoc, append-nil}
+use mathlib.Core.Bool.{true, false}
+use mathlib.Core.List.{List, [], _∷_, _++_, append-assoc}
 use native.Mathlib.Omega.{arith}
 use native.Mathlib.Decide.{decLt, ℕ-discrete}
 use borrow.Author.Tests.{lt-ltb, le-ltb, eq-eqb, ne-eqb}
-use lib.Dec.{ltb}
 use lib.ListN.{length, getD, take, drop, length-append}
 use lib.Seq.{drop-cons, take-at}
 use Rattle.series.specs.declared.Method.{Method}
 use Rattle.series.specs.declared.Method.the-variants.{Wheel, ProRata, Lottery}
 use Rattle.series_text.specs.Ascii.{ascii}
-use Rattle.series_text.specs.Results.{Result, refused, value, _>>=_, refuse}
-use Rattle.series_text.specs.Numbers.{LARGEST, number, decimal}
-use Rattle.series_text.specs.Text.{Text, Terms, Position, Series, Read, COMMA, NEWLINE, MOST, termsNames, positionNames, after, ends, fieldBy, numberBy, letter, methodBy, method, readTerms, readPosition, readPositions, readHead, readText, writeNumber, writeTerms, writePosition, writePositions, writeText}
-use Rattle.series_text.specs.Calls.{Handed, readingOf, writingOf, readInto, handed, onto, accountsAfter, shortsAfter, positionsOf, writeInto, lengthOf, textAfter}
+use Rattle.series_text.specs.Results.{Result, refused, value}
+use Rattle.series_text.specs.Numbers.{LARGEST}
+use Rattle.series_text.specs.Text.{Text, Terms, Position, Series, COMMA, NEWLINE, MOST, termsNames, positionNames, after, ends, fieldBy, letter, methodBy, method, readTerms, readPosition, readPositions, readHead, readText, writeNumber, writeTerms, writePosition, writePositions, writeText}
+use Rattle.series_text.specs.Calls.{readingOf, writingOf, readInto, handed, onto, accountsAfter, shortsAfter, positionsOf, writeInto, lengthOf, textAfter}
 use Rattle.series_text.specs.declared.Reading.{Reading}
 use Rattle.series_text.specs.declared.Writing.{Writing}
 use Rattle.series_text.proofs.CallLaws.{textOf}
@@ -29,11 +28,12 @@ use Rattle.series_text.proofs.PositionLaws.{length-line, length-terms, 
 abbrev pub Fits : Position → Type 0
 Fits p = (p .account ≤ LARGEST) × (p .short ≤ LARGEST)
 
--- what can be written: numbers of 32 bits, and at most 1,024 positions
+-- every number of the positions does
 abbrev pub AllFit : List Position → Type 0
 AllFit [] = Unit {0}
 AllFit (p ∷ ps) = Fits p × AllFit ps
 
+-- what can be written: numbers of 32 bits, and at most 1,024 positions
 pub record Writable (t : Series) : Type 0 where
   pub exercised : t .terms .exercised ≤ LARGEST
   pub draw : t .terms .draw ≤ LARGEST

@@ -1,6 +1,6 @@
 -- The bytes of a quoted text, in ASCII.
 use Prim.Native.Nat.{ℕ}
-use Prim.Native.Char.{Char, code}
+use Prim.Native.Char.{code}
 use Prim.Native.String.{String, [], _∷_}
 use mathlib.Core.List.{List}
 

@@ -1,16 +1,13 @@
 -- The two calls: what each hands back, and what its outputs then hold.
 use Prim.Native.Nat.{ℕ}
-use mathlib.Core.Bool.{Bool, not, _||_}
+use mathlib.Core.Bool.{not, _||_}
 use mathlib.Core.List.{List, [], _∷_, _++_, map}
 use lib.Dec.{eqb, ltb}
 use lib.ListN.{length, drop}
 use Rattle.series.specs.Answers.{numberOf}
-use Rattle.series.specs.declared.Method.{Method}
 use Rattle.series_text.specs.Results.{Result, refused, value, _>>=_, refuse}
 use Rattle.series_text.specs.Text.{Text, Terms, Position, Series, MOST, readText, writeText}
-use Rattle.series_text.specs.declared.Reading as declared·Reading
 use Rattle.series_text.specs.declared.Reading.{Reading}
-use Rattle.series_text.specs.declared.Writing as declared·Writing
 use Rattle.series_text.specs.declared.Writing.{Writing}
 
 -- what reading hands back: the values of line 2 and the number of positions

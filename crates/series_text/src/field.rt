@@ -1,6 +1,5 @@
 // Fields and fixed lines of a text.
 ghost use mathlib.Core.Path.{_≡_};
-ghost use Prim.Native.Nat.{_≤_, _<_};
 ghost use lib.ListN.{length, drop};
 ghost use Rattle.series_text.specs.Text.{after, ends, fieldBy};
 ghost use Rattle.series_text.specs.Parts.{lineMeans, foundMeans, foundWithin};

@@ -48,7 +48,6 @@ fn digits_of(n: u32) -> usize
 pub fn terms_length(method: Method, exercised: Contracts, draw: u32) -> usize
     ensures { λ r. ⌜ (r ≡ length (writeTerms (record { method = method; exercised = exercised .0; draw = draw }))) × (r ≤ 24) ⌝ }
 {
-    let _ = method;
     digits_of(exercised.0) + digits_of(draw) + 4
 }
 

@@ -1,11 +1,11 @@
 -- `lines::read_head` meets its contract: each line's answer is what the next step of the definition goes on with.
 -- Assumes nothing.
 use Prim.Native.Nat.{_≤_}
-use mathlib.Core.Path.{_≡_, refl, sym, ap, _∙_}
+use mathlib.Core.Path.{_≡_, sym, ap, _∙_}
 use native.Mathlib.Omega.{arith}
 use lib.ListN.{length, drop}
 use Rattle.series_text.specs.Ascii.{ascii}
-use Rattle.series_text.specs.Results.{Result, value}
+use Rattle.series_text.specs.Results.{value}
 use Rattle.series_text.specs.Text.{termsNames, positionNames, after, readTerms}
 use Rattle.series_text.specs.Parts.{lineMeans, termsMeans}
 use Rattle.series_text.specs.declared.lines.TermsLine.{TermsLine}

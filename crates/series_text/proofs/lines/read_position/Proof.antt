@@ -1,5 +1,5 @@
 -- `lines::read_position` meets its contract. Assumes nothing.
-use mathlib.Core.Path.{_≡_, refl, sym, ap, _∙_}
+use mathlib.Core.Path.{refl, sym, ap, _∙_}
 use lib.ListN.{drop}
 use Rattle.series_text.specs.Text.{ends}
 use Rattle.series_text.specs.Parts.{fieldMeans}

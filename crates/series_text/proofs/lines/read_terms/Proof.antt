@@ -5,8 +5,8 @@ use mathlib.Core.Path.{_≡_, refl, sym, ap, _∙_}
 use native.Mathlib.Omega.{arith}
 use lib.ListN.{drop}
 use lib.Seq.{slice}
-use Rattle.series_text.specs.Results.{Result, value}
-use Rattle.series_text.specs.Text.{Read, ends, method, numberBy}
+use Rattle.series_text.specs.Results.{value}
+use Rattle.series_text.specs.Text.{ends, method, numberBy}
 use Rattle.series_text.specs.Parts.{fieldMeans, foundMeans, namedMeans}
 use Rattle.series_text.specs.declared.number.Field.{Field}
 use Rattle.series_text.proofs.LineLaws.{FoundAt, found-at, terms-first, terms-second, terms-third, terms-method, terms-exercised, terms-draw, terms-all}

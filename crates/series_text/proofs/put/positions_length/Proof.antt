@@ -1,6 +1,6 @@
 -- `put::positions_length` meets its contract. The loop's invariant: the sum is the length of the lines passed, at most 22 bytes each.
 -- Assumes nothing.
-use Prim.Native.Nat.{_+_, _*_, _-_, _≤_}
+use Prim.Native.Nat.{_*_, _-_, _≤_}
 use mathlib.Core.Path.{_≡_, sym, ap, _∙_}
 use native.Mathlib.Omega.{arith}
 use lib.ListN.{length, getD, length-append}

@@ -3,7 +3,7 @@ use Prim.Native.Nat.{_+_}
 use mathlib.Core.Path.{_≡_}
 use native.Mathlib.Omega.{arith}
 use lib.ListN.{length, length-append}
-use Rattle.series_text.specs.Text.{Position, writeNumber, writePosition}
+use Rattle.series_text.specs.Text.{writeNumber, writePosition}
 use Rattle.series_text.proofs.PutLaws.{put-position}
 use borrow.Author.Needs.{needs}
 use Rattle.series_text.proofs.put.put_position.Statement.{statement}

@@ -3,7 +3,7 @@ use Prim.Native.Nat.{_+_}
 use mathlib.Core.Path.{_≡_, _∙_}
 use native.Mathlib.Omega.{arith}
 use lib.ListN.{length, set, length-append, length-set}
-use Rattle.series_text.specs.Text.{Terms, letter, writeNumber, writeTerms}
+use Rattle.series_text.specs.Text.{letter, writeNumber, writeTerms}
 use Rattle.series_text.specs.Parts.{Put}
 use Rattle.series_text.proofs.PutLaws.{put-terms}
 use borrow.Author.Needs.{needs}

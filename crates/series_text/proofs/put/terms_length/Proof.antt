@@ -1,7 +1,6 @@
 -- `put::terms_length` meets its contract. Assumes nothing.
 use Prim.Native.Nat.{_≤_}
 use native.Mathlib.Omega.{arith}
-use Rattle.series_text.specs.Text.{Terms}
 use Rattle.series_text.proofs.DecimalLaws.{digits-few}
 use Rattle.series_text.proofs.PositionLaws.{length-terms}
 use borrow.Author.Needs.{needs}

@@ -1,0 +1,73 @@
+use borrow.Author.Needs.{needs}
+use Rattle.dilbreth.proofs.dilbreth_write.Statement.{statement}
+use Rattle.dilbreth.proofs.dilbreth_write.Tie as tie
+use Rattle.dilbreth.proofs.dilbreth_write.Reads as reads
+use Rattle.dilbreth.proofs.dilbreth_write.Lts as lts
+use Rattle.series.proofs.number.Reads as number-reads
+use Rattle.series_text.proofs.method_by.Reads as method-by-reads
+use Rattle.series_text.proofs.write.Reads as write-reads
+
+-- src/lib.rt:105:32
+method-by-requires : tie.Need-method-by-requires
+method-by-requires c κs = search needs
+
+-- src/lib.rt:105:23
+enum-known-named : tie.Need-enum-known-named
+enum-known-named c = search needs
+
+-- src/lib.rt:106:9
+enum-told : tie.Need-enum-told
+enum-told c = search needs
+
+-- src/lib.rt:106:9
+returns : tie.Need-returns
+returns c = ?
+
+-- src/lib.rt:108:11
+write-requires : tie.Need-write-requires
+write-requires c κs = search needs
+
+-- src/lib.rt:109:26
+enum-known-n : tie.Need-enum-known-n
+enum-known-n c = search needs
+
+-- src/lib.rt:113:26
+enum-known-refusal : tie.Need-enum-known-refusal
+enum-known-refusal c = search needs
+
+-- src/lib.rt:113:38
+number-requires : tie.Need-number-requires
+number-requires c κs = search needs
+
+-- src/lib.rt:91:1
+same-length : tie.Need-same-length
+same-length c = search needs
+
+-- src/lib.rt:91:1
+returns-2 : tie.Need-returns-2
+returns-2 c = ?
+
+-- src/lib.rt:91:1
+same-length-2 : tie.Need-same-length-2
+same-length-2 c = search needs
+
+-- src/lib.rt:91:1
+returns-3 : tie.Need-returns-3
+returns-3 c = ?
+
+pub dilbreth-write-spec : {M : Type 1} → statement M
+dilbreth-write-spec =
+    tie.close
+    (tie.spec
+    method-by-requires
+    enum-known-named
+    enum-told
+    returns
+    write-requires
+    enum-known-n
+    enum-known-refusal
+    number-requires
+    same-length
+    returns-2
+    same-length-2
+    returns-3)
