@@ -1,4 +1,8 @@
 use borrow.Author.Needs.{needs}
+use mathlib.Core.Path.{_≡_, sym, ap, _∙_}
+use Rattle.series.specs.Answers.{outcomeOf}
+use Rattle.series_text.specs.Parts.{namedMeans}
+use Rattle.dilbreth.proofs.ExportLaws.{letter-unknown, letter-known}
 use Rattle.dilbreth.proofs.dilbreth_allocate.Statement.{statement}
 use Rattle.dilbreth.proofs.dilbreth_allocate.Tie as tie
 use Rattle.dilbreth.proofs.dilbreth_allocate.Reads as reads
@@ -21,7 +25,9 @@ enum-told c = search needs
 
 -- src/lib.rt:31:9
 returns : tie.Need-returns
-returns c = ?
+returns c =
+    let a = c .before .before .before .before .before .before .args in
+    letter-unknown (a .method) (a .accounts .now) (a .shorts .now) (a .exercised) (a .draw) (a .amounts .now) (a .total .now) (a .further .now) (sym (ap namedMeans (c .enum-told .given .1)) ∙ c .before .before .method-by .ensures)
 
 -- src/lib.rt:33:11
 allocate-requires : tie.Need-allocate-requires
@@ -53,7 +59,11 @@ same-length c = search needs
 
 -- src/lib.rt:14:1
 returns-2 : tie.Need-returns-2
-returns-2 c = ?
+returns-2 c =
+    let a = c .before .before .before .before .before .before .before .before .before .before .before .before .before .before .args in
+    let named = c .before .before .before .before .before .before .before .before .named .given in
+    let call = c .before .before .before .before .before .allocate in
+    letter-known (a .method) (a .accounts .now) (a .shorts .now) (a .exercised) (a .draw) (a .amounts .now) (a .total .now) (a .further .now) _ _ (call .last .1 .1 .1 .1 .1 .0) (sym (ap namedMeans (named .1)) ∙ c .before .before .before .before .before .before .before .before .before .before .method-by .ensures) (sym (ap outcomeOf (c .before .sum .given .1)) ∙ call .ensures .0) (call .ensures .1 .0)
 
 -- src/lib.rt:14:1
 same-length-2 : tie.Need-same-length-2
@@ -61,7 +71,11 @@ same-length-2 c = search needs
 
 -- src/lib.rt:14:1
 returns-3 : tie.Need-returns-3
-returns-3 c = ?
+returns-3 c =
+    let a = c .before .before .before .before .before .before .before .before .before .before .before .before .before .before .args in
+    let named = c .before .before .before .before .before .before .before .before .named .given in
+    let call = c .before .before .before .before .before .allocate in
+    letter-known (a .method) (a .accounts .now) (a .shorts .now) (a .exercised) (a .draw) (a .amounts .now) (a .total .now) (a .further .now) _ _ (call .last .1 .1 .1 .1 .1 .0) (sym (ap namedMeans (named .1)) ∙ c .before .before .before .before .before .before .before .before .before .before .method-by .ensures) (sym (ap outcomeOf (c .before .sum2 .given .1)) ∙ call .ensures .0) (call .ensures .1 .0)
 
 -- src/lib.rt:14:1
 same-length-3 : tie.Need-same-length-3
@@ -69,7 +83,11 @@ same-length-3 c = search needs
 
 -- src/lib.rt:14:1
 returns-4 : tie.Need-returns-4
-returns-4 c = ?
+returns-4 c =
+    let a = c .before .before .before .before .before .before .before .before .before .before .before .before .before .before .args in
+    let named = c .before .before .before .before .before .before .before .before .named .given in
+    let call = c .before .before .before .before .before .allocate in
+    letter-known (a .method) (a .accounts .now) (a .shorts .now) (a .exercised) (a .draw) (a .amounts .now) (a .total .now) (a .further .now) _ _ (call .last .1 .1 .1 .1 .1 .0) (sym (ap namedMeans (named .1)) ∙ c .before .before .before .before .before .before .before .before .before .before .method-by .ensures) (sym (ap outcomeOf (c .before .sum3 .given .1)) ∙ call .ensures .0) (call .ensures .1 .0)
 
 -- src/lib.rt:14:1
 same-length-4 : tie.Need-same-length-4
@@ -77,7 +95,12 @@ same-length-4 c = search needs
 
 -- src/lib.rt:14:1
 returns-5 : tie.Need-returns-5
-returns-5 c = ?
+returns-5 c =
+    let a = c .before .before .before .before .before .before .before .before .before .before .before .before .before .before .before .args in
+    let named = c .before .before .before .before .before .before .before .before .before .named .given in
+    let call = c .before .before .before .before .before .before .allocate in
+    let told = letter-known (a .method) (a .accounts .now) (a .shorts .now) (a .exercised) (a .draw) (a .amounts .now) (a .total .now) (a .further .now) _ _ (call .last .1 .1 .1 .1 .1 .0) (sym (ap namedMeans (named .1)) ∙ c .before .before .before .before .before .before .before .before .before .before .before .method-by .ensures) (sym (ap outcomeOf (c .before .before .refusal .given .1)) ∙ call .ensures .0) (call .ensures .1 .0) in
+    (c .number .ensures ∙ told .0, told .1)
 
 pub dilbreth-allocate-spec : {M : Type 1} → statement M
 dilbreth-allocate-spec =

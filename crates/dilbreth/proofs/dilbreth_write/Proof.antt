@@ -1,4 +1,8 @@
 use borrow.Author.Needs.{needs}
+use mathlib.Core.Path.{_≡_, sym, ap, _∙_}
+use Rattle.series_text.specs.Parts.{namedMeans}
+use Rattle.series_text.specs.Calls.{writingOf}
+use Rattle.dilbreth.proofs.ExportLaws.{write-unknown, write-known}
 use Rattle.dilbreth.proofs.dilbreth_write.Statement.{statement}
 use Rattle.dilbreth.proofs.dilbreth_write.Tie as tie
 use Rattle.dilbreth.proofs.dilbreth_write.Reads as reads
@@ -21,7 +25,9 @@ enum-told c = search needs
 
 -- src/lib.rt:106:9
 returns : tie.Need-returns
-returns c = ?
+returns c =
+    let a = c .before .before .before .before .before .before .args in
+    write-unknown (a .method) (a .exercised) (a .draw) (a .accounts .now) (a .shorts .now) (a .text .now) (a .written .now) (sym (ap namedMeans (c .enum-told .given .1)) ∙ c .before .before .method-by .ensures)
 
 -- src/lib.rt:108:11
 write-requires : tie.Need-write-requires
@@ -45,7 +51,11 @@ same-length c = search needs
 
 -- src/lib.rt:91:1
 returns-2 : tie.Need-returns-2
-returns-2 c = ?
+returns-2 c =
+    let a = c .before .before .before .before .before .before .before .before .before .before .before .before .before .before .args in
+    let call = c .before .before .before .before .before .write in
+    let told = write-known (a .method) (a .exercised) (a .draw) (a .accounts .now) (a .shorts .now) (a .text .now) (a .written .now) _ _ (call .last .1 .1 .1 .1 .1 .0) (sym (ap namedMeans (c .before .before .before .before .before .before .before .before .named .given .1)) ∙ c .before .before .before .before .before .before .before .before .before .before .method-by .ensures) (sym (ap writingOf (c .before .n .given .1)) ∙ call .ensures .0) (call .ensures .1) in
+    told
 
 -- src/lib.rt:91:1
 same-length-2 : tie.Need-same-length-2
@@ -53,7 +63,11 @@ same-length-2 c = search needs
 
 -- src/lib.rt:91:1
 returns-3 : tie.Need-returns-3
-returns-3 c = ?
+returns-3 c =
+    let a = c .before .before .before .before .before .before .before .before .before .before .before .before .before .before .before .args in
+    let call = c .before .before .before .before .before .before .write in
+    let told = write-known (a .method) (a .exercised) (a .draw) (a .accounts .now) (a .shorts .now) (a .text .now) (a .written .now) _ _ (call .last .1 .1 .1 .1 .1 .0) (sym (ap namedMeans (c .before .before .before .before .before .before .before .before .before .named .given .1)) ∙ c .before .before .before .before .before .before .before .before .before .before .before .method-by .ensures) (sym (ap writingOf (c .before .before .refusal .given .1)) ∙ call .ensures .0) (call .ensures .1) in
+    (c .number .ensures ∙ told .0, told .1)
 
 pub dilbreth-write-spec : {M : Type 1} → statement M
 dilbreth-write-spec =
