@@ -1,0 +1,136 @@
+/*
+ * Dilbreth: exercise assignment of option contracts.
+ *
+ * Each function answers 0, or the number of the refusal that it met:
+ *
+ *    1  accounts and shorts differ in length
+ *    2  more than 4,096 positions
+ *    3  no positions
+ *    4  an output is too short
+ *    5  an account is 0 or not above the one before
+ *    6  a position has 0 shorts
+ *    7  the shorts add up to more than 10,000,000
+ *    8  0 contracts are exercised
+ *    9  more contracts are exercised than there are shorts
+ *   10  the draw is outside 1 to T (method W) or 1 to 10,000 (method L)
+ *   11  a text of more than 32,768 bytes
+ *   12  line 1 or line 3 of a text is missing or not exact
+ *   13  a line of a text has other fields than it should, a malformed number or no byte 10
+ *   14  the method is unknown
+ *   15  more than 1,024 positions in a text
+ *
+ * On a refusal nothing else is written: every list, every byte of a text and
+ * every number behind a pointer is as it was before the call.
+ *
+ * A length counts elements (bytes for a text). The area of a list begins at
+ * its pointer. No pointer may be null, that of a list of length 0 included.
+ * An area that a call writes may not overlap with any other that it is handed;
+ * two that it only reads may.
+ */
+#ifndef DILBRETH_H
+#define DILBRETH_H
+
+#include <stddef.h>
+#include <stdint.h>
+
+#ifdef __cplusplus
+extern "C" {
+#endif
+
+/* The methods. */
+#define DILBRETH_WHEEL ((uint8_t)'W')
+#define DILBRETH_PRO_RATA ((uint8_t)'P')
+#define DILBRETH_STARTING_NUMBER ((uint8_t)'L')
+
+/*
+ * Assigns the exercised contracts of one series to its short positions.
+ * Refuses 14 first, for a method that is none of the three, then 1 to 10.
+ *
+ * method        'W' the wheel, 'P' pro rata, 'L' the starting number
+ * accounts      the account of each position, 1 or more, rising
+ * accounts_len  the length of accounts, 1 to 4,096
+ * shorts        the short contracts of each position, 1 or more; their sum is T,
+ *               at most 10,000,000
+ * shorts_len    the length of shorts, equal to accounts_len
+ * exercised     S, the contracts exercised, 1 to T
+ * draw          W: the starting place, 1 to T. L: 1 to 10,000 ten-thousandths.
+ *               P: any number; it decides who is served among equal decimal parts
+ * amounts       receives the contracts assigned to each position, in list order;
+ *               elements past the list are kept
+ * amounts_len   the length of amounts, at least accounts_len
+ * total         receives T
+ * further       receives, for W, the number of blocks (0 where S equals T);
+ *               for P, the contracts of round two; for L, the starting place
+ */
+uint32_t dilbreth_allocate(uint8_t method,
+                           const uint32_t *accounts, size_t accounts_len,
+                           const uint32_t *shorts, size_t shorts_len,
+                           uint32_t exercised, uint32_t draw,
+                           uint32_t *amounts, size_t amounts_len,
+                           uint32_t *total, uint32_t *further);
+
+/*
+ * Reads the text of a series. Refuses 11 to 15 as the text's lines meet them,
+ * and last 4 where accounts or shorts is shorter than the positions of the text.
+ * The series itself is not judged.
+ *
+ * text          the bytes of the text
+ * text_len      its length, at most 32,768
+ * accounts      receives the account of each position; elements past them are kept
+ * accounts_len  the length of accounts (1,024 is always enough)
+ * shorts        receives the shorts of each position; elements past them are kept
+ * shorts_len    the length of shorts (1,024 is always enough)
+ * method        receives 'W', 'P' or 'L'
+ * exercised     receives S
+ * draw          receives the draw
+ * positions     receives the number of positions, 0 for a text without any
+ */
+uint32_t dilbreth_read(const uint8_t *text, size_t text_len,
+                       uint32_t *accounts, size_t accounts_len,
+                       uint32_t *shorts, size_t shorts_len,
+                       uint8_t *method, uint32_t *exercised, uint32_t *draw,
+                       size_t *positions);
+
+/*
+ * Writes the text of a series. Refuses 14 first, for a method that is none of
+ * the three, then 1, then 15 for more than 1,024 positions, then 4 where text is
+ * shorter than what there is to write. Accounts, shorts, S and draw are not judged.
+ *
+ * method        'W', 'P' or 'L'
+ * exercised     S
+ * draw          the draw
+ * accounts      the account of each position
+ * accounts_len  the length of accounts, at most 1,024
+ * shorts        the shorts of each position
+ * shorts_len    the length of shorts, equal to accounts_len
+ * text          receives the bytes of the text; bytes past them are kept
+ * text_len      the length of text (32,768 is always enough)
+ * written       receives the number of bytes written
+ */
+uint32_t dilbreth_write(uint8_t method, uint32_t exercised, uint32_t draw,
+                        const uint32_t *accounts, size_t accounts_len,
+                        const uint32_t *shorts, size_t shorts_len,
+                        uint8_t *text, size_t text_len,
+                        size_t *written);
+
+/*
+ * Writes what the program `assign` prints for a text: the line `account,assigned`
+ * and a line for each position, or, for a text or series that is refused, the line
+ * `refused` and a line with the number. The only refusal of this call is 4, where
+ * output is shorter than those bytes.
+ *
+ * text          the bytes of the text
+ * text_len      its length; more than 32,768 is answered in output by 11
+ * output        receives the bytes; bytes past them are kept
+ * output_len    the length of output (32,768 is always enough)
+ * written       receives the number of bytes written
+ */
+uint32_t dilbreth_respond(const uint8_t *text, size_t text_len,
+                          uint8_t *output, size_t output_len,
+                          size_t *written);
+
+#ifdef __cplusplus
+}
+#endif
+
+#endif

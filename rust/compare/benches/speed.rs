@@ -1,0 +1,290 @@
+// Times of the library against plain Rust; the median of many runs.
+
+use std::hint::black_box;
+use std::process::Stdio;
+use std::time::{Duration, Instant};
+
+use compare::make::{self, Series};
+use compare::plain;
+use compare::program::{self, TextFile};
+use compare::random::Random;
+use dilbreth::calls;
+
+// Nanoseconds of one call: the median of samples that each last long enough to be measured.
+fn median(mut call: impl FnMut()) -> f64 {
+    let begin = Instant::now();
+    call();
+    let once = begin.elapsed().max(Duration::from_nanos(20));
+    let inner = (Duration::from_micros(100).as_nanos() / once.as_nanos()).clamp(1, 5_000) as u32;
+    let budget = Duration::from_millis(250);
+    let mut samples = Vec::new();
+    let begin = Instant::now();
+    while samples.len() < 5 || (begin.elapsed() < budget && samples.len() < 501) {
+        let start = Instant::now();
+        for _ in 0..inner {
+            call();
+        }
+        samples.push(start.elapsed().as_nanos() as f64 / f64::from(inner));
+    }
+    samples.sort_by(f64::total_cmp);
+    samples[samples.len() / 2]
+}
+
+fn time(nanoseconds: f64) -> String {
+    match nanoseconds {
+        n if n < 1e4 => format!("{n:.0} ns"),
+        n if n < 1e7 => format!("{:.1} us", n / 1e3),
+        n => format!("{:.2} ms", n / 1e6),
+    }
+}
+
+struct Row {
+    method: u8,
+    positions: usize,
+    total: u64,
+    exercised: u32,
+}
+
+// Positions of unequal size with T contracts in all.
+fn list(positions: usize, total: u64) -> Series {
+    let mut random = Random::new(0xBE7C_4000 + positions as u64);
+    let weights: Vec<u64> = (0..positions).map(|_| random.between(20, 180)).collect();
+    let sum: u64 = weights.iter().sum();
+    let free = total - positions as u64;
+    let mut shorts: Vec<u32> = weights.iter().map(|w| 1 + (free * w / sum) as u32).collect();
+    let given: u64 = shorts.iter().map(|&s| u64::from(s)).sum();
+    for short in &mut shorts[..(total - given) as usize] {
+        *short += 1;
+    }
+    Series { accounts: make::upward(positions), shorts }
+}
+
+fn allocation(row: Row) {
+    let list = list(row.positions, row.total);
+    assert_eq!(list.total(), row.total);
+    let (method, exercised) = (row.method, row.exercised);
+    let (accounts, shorts) = (&list.accounts[..], &list.shorts[..]);
+    let draw = if method == b'W' { (row.total / 3) as u32 } else { 3_333 };
+    let step = median(|| {
+        let answer = reference::allocate(method, black_box(accounts), shorts, exercised, draw, shorts.len());
+        black_box(answer.expect("an allocation"));
+    });
+    let mut amounts = vec![0u32; row.positions];
+    for cleared in [false, true] {
+        let library = median(|| {
+            if cleared {
+                black_box(&mut amounts).fill(0);
+            }
+            let (mut total, mut further) = (0, 0);
+            let number = calls::allocate(
+                method,
+                black_box(accounts),
+                shorts,
+                exercised,
+                draw,
+                &mut amounts,
+                &mut total,
+                &mut further,
+            );
+            assert_eq!(black_box((number, total)).0, 0);
+            black_box(&amounts);
+        });
+        let best = median(|| {
+            if cleared {
+                black_box(&mut amounts).fill(0);
+            }
+            let answer = plain::allocate(method, black_box(accounts), shorts, exercised, draw, &mut amounts);
+            black_box(answer.expect("an allocation"));
+            black_box(&amounts);
+        });
+        let division = if method == b'W' {
+            time(median(|| {
+                if cleared {
+                    black_box(&mut amounts).fill(0);
+                }
+                let answer =
+                    plain::allocate_wheel_by_division(black_box(accounts), shorts, exercised, draw, &mut amounts);
+                black_box(answer.expect("an allocation"));
+                black_box(&amounts);
+            }))
+        } else {
+            "-".to_string()
+        };
+        println!(
+            "{:<7}{:>10}{:>11}{:>11}{:>9}{:>12}{:>12}{:>12}{:>12}{:>12.4}{:>12.2}",
+            char::from(method),
+            row.positions,
+            row.total,
+            exercised,
+            if cleared { "yes" } else { "no" },
+            time(library),
+            time(step),
+            division,
+            time(best),
+            library / step,
+            library / best
+        );
+    }
+}
+
+fn allocations() {
+    println!("Allocating: one call. 'stepping' is one contract at a time; 'plain' is the best plain Rust of the same");
+    println!(
+        "kind (blocks and positions, cut-off, positions); 'division' is plain Rust with a division for each position."
+    );
+    println!(
+        "Cleared: the output was filled with 0 before each call, within the time; else it holds the last amounts."
+    );
+    println!(
+        "{:<7}{:>10}{:>11}{:>11}{:>9}{:>12}{:>12}{:>12}{:>12}{:>12}{:>12}",
+        "method",
+        "positions",
+        "T",
+        "S",
+        "cleared",
+        "library",
+        "stepping",
+        "division",
+        "plain",
+        "to stepping",
+        "to plain"
+    );
+    for method in make::METHODS {
+        for positions in [10, 100, 1_024, 4_096] {
+            for total in [10_000, 10_000_000u64] {
+                let mut exercised = vec![(total * 3 / 7) as u32];
+                if method == b'W' {
+                    exercised.push((total - 1) as u32);
+                    exercised.push((total / 100) as u32);
+                }
+                for exercised in exercised {
+                    allocation(Row { method, positions, total, exercised });
+                }
+            }
+        }
+    }
+}
+
+fn rate(bytes: usize, nanoseconds: f64) -> String {
+    format!("{:.0} MB/s", bytes as f64 / nanoseconds * 1e3)
+}
+
+fn texts() {
+    println!();
+    println!("Texts: bytes read or written in a second. The lists or the text are not cleared first.");
+    println!(
+        "{:<9}{:>10}{:>9}{:>12}{:>12}{:>12}{:>12}{:>12}",
+        "call", "positions", "bytes", "library", "plain", "library", "plain", "to plain"
+    );
+    for positions in [10, 100, 1_024] {
+        let mut random = Random::new(0xBE7C_5000);
+        let mut account = 3_000_000_000u32;
+        let accounts: Vec<u32> = (0..positions)
+            .map(|_| {
+                account += random.between(1, 1_000_000) as u32;
+                account
+            })
+            .collect();
+        let shorts: Vec<u32> = (0..positions).map(|_| random.spread(9_000) as u32).collect();
+        let text = reference::write(b'W', 500, 77, &accounts, &shorts, usize::MAX).expect("a text");
+        let (mut a, mut s) = (vec![0; positions], vec![0; positions]);
+        let library = median(|| {
+            let (mut method, mut exercised, mut draw, mut found) = (0, 0, 0, 0);
+            let number =
+                calls::read(black_box(&text), &mut a, &mut s, &mut method, &mut exercised, &mut draw, &mut found);
+            assert_eq!(black_box((number, found)), (0, positions));
+            black_box((&a, &s));
+        });
+        let best = median(|| {
+            black_box(plain::read(black_box(&text), &mut a, &mut s).expect("a series"));
+            black_box((&a, &s));
+        });
+        let show = |call: &str, bytes: usize, library: f64, best: f64| {
+            println!(
+                "{:<9}{:>10}{:>9}{:>12}{:>12}{:>12}{:>12}{:>12.2}",
+                call,
+                positions,
+                bytes,
+                time(library),
+                time(best),
+                rate(bytes, library),
+                rate(bytes, best),
+                library / best
+            );
+        };
+        show("read", text.len(), library, best);
+        let mut out = vec![0; text.len()];
+        let library = median(|| {
+            let mut written = 0;
+            let number = calls::write(b'W', 500, 77, black_box(&accounts), &shorts, &mut out, &mut written);
+            assert_eq!(black_box((number, written)), (0, text.len()));
+            black_box(&out);
+        });
+        let best = median(|| {
+            black_box(plain::write(b'W', 500, 77, black_box(&accounts), &shorts, &mut out).expect("a text"));
+            black_box(&out);
+        });
+        show("write", text.len(), library, best);
+        let mut printed = vec![0; 32_768];
+        let library = median(|| {
+            let mut written = 0;
+            assert_eq!(black_box(calls::respond(black_box(&text), &mut printed, &mut written)), 0);
+            black_box(&printed);
+        });
+        let slow = median(|| {
+            black_box(reference::printed(black_box(&text)));
+        });
+        println!(
+            "{:<9}{:>10}{:>9}{:>12}{:>12}{:>12}{:>12}{:>12.2}   (plain here is the stepping version)",
+            "respond",
+            positions,
+            text.len(),
+            time(library),
+            time(slow),
+            rate(text.len(), library),
+            rate(text.len(), slow),
+            library / slow
+        );
+    }
+}
+
+fn whole_runs() {
+    println!();
+    if !program::path().exists() {
+        println!("The program: {} is not there.", program::path().display());
+        return;
+    }
+    println!("The program: whole runs on a text of 1,024 positions, start and end of the process included.");
+    println!("{:<24}{:>9}{:>12}{:>12}{:>12}", "run", "bytes", "assign", "true", "to true");
+    let run = |command: &mut std::process::Command, file: &TextFile| {
+        let status = command.stdin(Stdio::from(file.open())).stdout(Stdio::null()).stderr(Stdio::null()).status();
+        black_box(status.expect("a run"));
+    };
+    for method in make::METHODS {
+        let shorts: Vec<u32> = (0..1_024).map(|i| 9_000 + i % 700).collect();
+        let accounts: Vec<u32> = (0..1_024).map(|i| 4_000_000_000 + 977 * i).collect();
+        let total: u32 = shorts.iter().sum();
+        let text = reference::write(method, total - 1, 4_855, &accounts, &shorts, usize::MAX).expect("a text");
+        let file = TextFile::new(&text);
+        let ours = median(|| run(&mut program::command(), &file));
+        let empty = median(|| run(&mut std::process::Command::new("/bin/true"), &file));
+        println!(
+            "{:<24}{:>9}{:>12}{:>12}{:>12.2}",
+            format!("{}, S = T - 1 = {}", char::from(method), total - 1),
+            text.len(),
+            time(ours),
+            time(empty),
+            ours / empty
+        );
+    }
+}
+
+fn main() {
+    // `cargo test --benches` only has to see that it starts.
+    if std::env::args().any(|a| a == "--test") {
+        return;
+    }
+    allocations();
+    texts();
+    whole_runs();
+}

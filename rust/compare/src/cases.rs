@@ -1,0 +1,98 @@
+//! A case as one line, and such a line run again.
+
+use std::fmt::Write;
+
+use crate::program::{self, Feed};
+
+fn list(numbers: &[u32]) -> String {
+    if numbers.is_empty() {
+        return "-".to_string();
+    }
+    numbers.iter().map(u32::to_string).collect::<Vec<_>>().join(",")
+}
+
+fn hex(bytes: &[u8]) -> String {
+    if bytes.is_empty() {
+        return "-".to_string();
+    }
+    let mut out = String::new();
+    for b in bytes {
+        write!(out, "{b:02x}").unwrap();
+    }
+    out
+}
+
+// A method as its letter, another byte as its number.
+fn shown(method: u8) -> String {
+    if method.is_ascii_alphabetic() {
+        char::from(method).to_string()
+    } else {
+        method.to_string()
+    }
+}
+
+pub fn allocate(method: u8, accounts: &[u32], shorts: &[u32], exercised: u32, draw: u32, room: usize) -> String {
+    format!("allocate {} {} {} {exercised} {draw} {room}", shown(method), list(accounts), list(shorts))
+}
+
+pub fn read(text: &[u8], accounts_room: usize, shorts_room: usize) -> String {
+    format!("read {} {accounts_room} {shorts_room}", hex(text))
+}
+
+pub fn write(method: u8, exercised: u32, draw: u32, accounts: &[u32], shorts: &[u32], room: usize) -> String {
+    format!("write {} {exercised} {draw} {} {} {room}", shown(method), list(accounts), list(shorts))
+}
+
+pub fn respond(text: &[u8], room: usize) -> String {
+    format!("respond {} {room}", hex(text))
+}
+
+pub fn program(text: &[u8], feed: Feed) -> String {
+    let by = match feed {
+        Feed::Pipe => "pipe".to_string(),
+        Feed::File => "file".to_string(),
+        Feed::Pieces(size) => size.to_string(),
+    };
+    format!("assign {by} {}", hex(text))
+}
+
+fn to_method(word: &str) -> u8 {
+    word.parse().unwrap_or_else(|_| word.as_bytes()[0])
+}
+
+fn to_feed(word: &str) -> Feed {
+    match word {
+        "pipe" => Feed::Pipe,
+        "file" => Feed::File,
+        size => Feed::Pieces(size.parse().expect("pipe, file or a size")),
+    }
+}
+
+fn to_list(word: &str) -> Vec<u32> {
+    if word == "-" {
+        return Vec::new();
+    }
+    word.split(',').map(|n| n.parse().expect("a number")).collect()
+}
+
+fn to_bytes(word: &str) -> Vec<u8> {
+    if word == "-" {
+        return Vec::new();
+    }
+    (0..word.len() / 2).map(|i| u8::from_str_radix(&word[2 * i..2 * i + 2], 16).expect("two hex digits")).collect()
+}
+
+/// Runs the case of a printed line.
+pub fn again(line: &str) -> Result<bool, String> {
+    let words: Vec<&str> = line.split_whitespace().collect();
+    let n = |i: usize| words[i].parse::<u32>().expect("a number");
+    let room = |i: usize| words[i].parse::<usize>().expect("a length");
+    match words[0] {
+        "allocate" => crate::allocate(to_method(words[1]), &to_list(words[2]), &to_list(words[3]), n(4), n(5), room(6)),
+        "read" => crate::read(&to_bytes(words[1]), room(2), room(3)),
+        "write" => crate::write(to_method(words[1]), n(2), n(3), &to_list(words[4]), &to_list(words[5]), room(6)),
+        "respond" => crate::respond(&to_bytes(words[1]), room(2)),
+        "assign" => program::compare(&to_bytes(words[2]), to_feed(words[1])),
+        other => panic!("no such call: {other}"),
+    }
+}

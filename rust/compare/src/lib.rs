@@ -1,0 +1,203 @@
+//! Holds the static library and the program against the separately written version.
+//! Each function here runs one case on both and compares the whole answer; a case that
+//! differs is printed as a line that `cargo run --release --example again` takes.
+
+pub mod cases;
+pub mod make;
+pub mod plain;
+pub mod program;
+pub mod random;
+
+use dilbreth::calls;
+
+// What the outputs hold before a call: no amount, no account in use, no byte of a text.
+const EDGE: usize = 8;
+
+fn kept_number(at: usize) -> u32 {
+    0xC0DE_0000 ^ at as u32
+}
+
+fn kept_byte(at: usize) -> u8 {
+    0x80 | (at * 37) as u8
+}
+
+/// An output of the length asked for, with an edge on both sides that no call may touch.
+struct Lent<T> {
+    all: Vec<T>,
+    room: usize,
+}
+
+impl<T: Copy + PartialEq> Lent<T> {
+    fn new(room: usize, kept: fn(usize) -> T) -> Lent<T> {
+        Lent { all: (0..room + 2 * EDGE).map(kept).collect(), room }
+    }
+
+    fn slice(&mut self) -> &mut [T] {
+        &mut self.all[EDGE..EDGE + self.room]
+    }
+
+    /// Whether the output is `written` followed by what it held before, the edges included.
+    fn is(&self, written: &[T], kept: fn(usize) -> T) -> bool {
+        let end = EDGE + written.len();
+        written.len() <= self.room
+            && self.all[EDGE..end] == *written
+            && (0..EDGE).chain(end..self.all.len()).all(|i| self.all[i] == kept(i))
+    }
+
+    fn first_difference(&self, written: &[T], kept: fn(usize) -> T) -> String {
+        for i in 0..self.all.len() {
+            let want = if i >= EDGE && i < EDGE + written.len() { written[i - EDGE] } else { kept(i) };
+            if self.all[i] != want {
+                return format!("first at index {}", i as isize - EDGE as isize);
+            }
+        }
+        "nowhere".to_string()
+    }
+}
+
+// The amounts add up to S, none is above its shorts, and under P each is less than one from its exact share.
+fn fair(method: u8, shorts: &[u32], exercised: u32, total: u32, amounts: &[u32]) -> bool {
+    let wide = |n: &u32| u64::from(*n);
+    let (t, s) = (u64::from(total), u64::from(exercised));
+    amounts.iter().map(wide).sum::<u64>() == s
+        && shorts.iter().zip(amounts).all(|(short, amount)| {
+            amount <= short && (method != b'P' || (wide(short) * s).abs_diff(t * wide(amount)) < t)
+        })
+}
+
+/// The allocating call; answers whether the series was accepted.
+pub fn allocate(
+    method: u8,
+    accounts: &[u32],
+    shorts: &[u32],
+    exercised: u32,
+    draw: u32,
+    room: usize,
+) -> Result<bool, String> {
+    let expected = reference::allocate(method, accounts, shorts, exercised, draw, room);
+    let mut amounts = Lent::new(room, kept_number);
+    let (mut total, mut further) = (kept_number(1), kept_number(2));
+    let number = calls::allocate(method, accounts, shorts, exercised, draw, amounts.slice(), &mut total, &mut further);
+    let (want, written) = match &expected {
+        Ok(a) => ((0, a.total, a.further), &a.amounts[..]),
+        Err(n) => ((*n, kept_number(1), kept_number(2)), &[][..]),
+    };
+    let found = (number, total, further);
+    if found == want && amounts.is(written, kept_number) {
+        if number == 0 && !fair(method, shorts, exercised, total, written) {
+            let case = cases::allocate(method, accounts, shorts, exercised, draw, room);
+            return Err(format!("{case}\n  both give {written:?}, which is no fair share"));
+        }
+        return Ok(number == 0);
+    }
+    Err(format!(
+        "{}\n  answer, T, further: expected {want:?}, found {found:?}; amounts differ {}",
+        cases::allocate(method, accounts, shorts, exercised, draw, room),
+        amounts.first_difference(written, kept_number)
+    ))
+}
+
+/// The reading call; answers whether the text was accepted.
+pub fn read(text: &[u8], accounts_room: usize, shorts_room: usize) -> Result<bool, String> {
+    let expected = reference::read(text, accounts_room, shorts_room);
+    let mut accounts = Lent::new(accounts_room, kept_number);
+    let mut shorts = Lent::new(shorts_room, kept_number);
+    let (mut method, mut exercised, mut draw, mut positions) = (kept_byte(1), kept_number(1), kept_number(2), !3);
+    let kept = (method, exercised, draw, positions);
+    let number =
+        calls::read(text, accounts.slice(), shorts.slice(), &mut method, &mut exercised, &mut draw, &mut positions);
+    let (want, list_a, list_s) = match &expected {
+        Ok(s) => ((0, (s.method, s.exercised, s.draw, s.accounts.len())), &s.accounts[..], &s.shorts[..]),
+        Err(n) => ((*n, kept), &[][..], &[][..]),
+    };
+    let found = (number, (method, exercised, draw, positions));
+    if found == want && accounts.is(list_a, kept_number) && shorts.is(list_s, kept_number) {
+        return Ok(number == 0);
+    }
+    Err(format!(
+        "{}\n  answer and terms: expected {want:?}, found {found:?}; accounts differ {}, shorts {}",
+        cases::read(text, accounts_room, shorts_room),
+        accounts.first_difference(list_a, kept_number),
+        shorts.first_difference(list_s, kept_number)
+    ))
+}
+
+/// The writing call; answers whether the text was written.
+pub fn write(
+    method: u8,
+    exercised: u32,
+    draw: u32,
+    accounts: &[u32],
+    shorts: &[u32],
+    room: usize,
+) -> Result<bool, String> {
+    let expected = reference::write(method, exercised, draw, accounts, shorts, room);
+    let mut text = Lent::new(room, kept_byte);
+    let mut length = !3;
+    let number = calls::write(method, exercised, draw, accounts, shorts, text.slice(), &mut length);
+    let (want, written) = match &expected {
+        Ok(t) => ((0, t.len()), &t[..]),
+        Err(n) => ((*n, !3), &[][..]),
+    };
+    let found = (number, length);
+    if found == want && text.is(written, kept_byte) {
+        return Ok(number == 0);
+    }
+    Err(format!(
+        "{}\n  answer and length: expected {want:?}, found {found:?}; bytes differ {}",
+        cases::write(method, exercised, draw, accounts, shorts, room),
+        text.first_difference(written, kept_byte)
+    ))
+}
+
+/// The responding call; answers whether the output was long enough.
+pub fn respond(text: &[u8], room: usize) -> Result<bool, String> {
+    let expected = reference::respond(text, room);
+    let mut output = Lent::new(room, kept_byte);
+    let mut length = !3;
+    let number = calls::respond(text, output.slice(), &mut length);
+    let (want, written) = match &expected {
+        Ok(t) => ((0, t.len()), &t[..]),
+        Err(n) => ((*n, !3), &[][..]),
+    };
+    let found = (number, length);
+    if found == want && output.is(written, kept_byte) {
+        return Ok(number == 0);
+    }
+    Err(format!(
+        "{}\n  answer and length: expected {want:?}, found {found:?}; bytes differ {}",
+        cases::respond(text, room),
+        output.first_difference(written, kept_byte)
+    ))
+}
+
+/// Counts the cases of a test; a case that differs ends it.
+pub struct Count {
+    what: &'static str,
+    accepted: u64,
+    refused: u64,
+}
+
+impl Count {
+    pub fn new(what: &'static str) -> Count {
+        Count { what, accepted: 0, refused: 0 }
+    }
+
+    #[track_caller]
+    pub fn case(&mut self, outcome: Result<bool, String>) -> bool {
+        match outcome {
+            Ok(true) => self.accepted += 1,
+            Ok(false) => self.refused += 1,
+            Err(shown) => panic!("{} differs after {} cases:\n{shown}", self.what, self.cases()),
+        }
+        outcome == Ok(true)
+    }
+
+    pub fn cases(&self) -> u64 {
+        self.accepted + self.refused
+    }
+
+    pub fn print(&self) {
+        println!("{}: {} cases, {} accepted, {} refused", self.what, self.cases(), self.accepted, self.refused);
+    }
+}

@@ -1,0 +1,299 @@
+//! Makes series, texts and damage to them.
+
+use crate::random::Random;
+
+pub const METHODS: [u8; 3] = *b"WPL";
+
+#[derive(Clone, Debug)]
+pub struct Series {
+    pub accounts: Vec<u32>,
+    pub shorts: Vec<u32>,
+}
+
+impl Series {
+    pub fn total(&self) -> u64 {
+        self.shorts.iter().map(|&s| u64::from(s)).sum()
+    }
+}
+
+/// Accounts 1, 2, ..
+pub fn upward(count: usize) -> Vec<u32> {
+    (1..=count as u32).collect()
+}
+
+fn accounts(random: &mut Random, count: usize) -> Vec<u32> {
+    match random.below(4) {
+        0 => upward(count),
+        1 => (0..count as u32).map(|i| u32::MAX - (count as u32 - 1) + i).collect(),
+        _ => {
+            let widest = (u64::from(u32::MAX) / count as u64).min(random.spread(u64::from(u32::MAX)));
+            let mut last = 0;
+            let mut all = Vec::new();
+            for _ in 0..count {
+                last += random.between(1, widest.max(1)) as u32;
+                all.push(last);
+            }
+            all
+        }
+    }
+}
+
+/// A list of `count` positions with T at most `most`, and exactly `most` where `exact` is set.
+pub fn series(random: &mut Random, count: usize, most: u64, exact: bool) -> Series {
+    let style = random.below(6);
+    let weights: Vec<u64> = (0..count)
+        .map(|i| match style {
+            0 => 1,
+            1 => random.between(1, 3),
+            2 => random.between(1, 1_000),
+            3 => random.spread(1 << 20),
+            4 => u64::from(i == count / 2) * 1_000_000 + 1,
+            _ => random.pick(&[25, 50, 26, 75]),
+        })
+        .collect();
+    let sum: u64 = weights.iter().sum();
+    let free = most - count as u64;
+    let mut shorts: Vec<u32> =
+        weights.iter().map(|&w| 1 + (u128::from(free) * u128::from(w) / u128::from(sum)) as u32).collect();
+    if exact {
+        let short: u64 = shorts.iter().map(|&s| u64::from(s)).sum();
+        let at = random.index(count);
+        shorts[at] += (most - short) as u32;
+    }
+    Series { accounts: accounts(random, count), shorts }
+}
+
+/// S for a list with T contracts.
+pub fn exercised(random: &mut Random, total: u64) -> u32 {
+    let s = match random.below(24) {
+        0 => 0,
+        1 => total + 1,
+        2 | 3 => total,
+        4 | 5 => total - 1,
+        6 | 7 => total - random.below(total.min(60)),
+        8 | 9 => (random.between(0, total / 25) * 25).max(1),
+        10 => (random.between(0, total / 25) * 25 + 1).min(total),
+        11 | 12 => random.spread(total),
+        13 => total / 2,
+        _ => random.between(1, total),
+    };
+    s as u32
+}
+
+/// A draw for a method; mostly one in range.
+pub fn draw(random: &mut Random, method: u8, total: u64) -> u32 {
+    let highest = match method {
+        b'W' => total,
+        b'L' => 10_000,
+        _ => u64::from(u32::MAX),
+    };
+    let d = match random.below(32) {
+        0 => 0,
+        1 => highest + 1,
+        2 | 3 => 1,
+        4 | 5 => highest,
+        6 => highest - 1,
+        7 => random.spread(highest),
+        8 => u64::from(random.bits() as u32) >> 20,
+        _ => random.between(1, highest),
+    };
+    d.min(u64::from(u32::MAX)) as u32
+}
+
+/// Breaks a list in one way.
+pub fn spoil(random: &mut Random, list: &mut Series) {
+    let count = list.shorts.len().min(list.accounts.len());
+    if count == 0 {
+        return;
+    }
+    let at = random.index(count);
+    match random.below(12) {
+        0 => list.accounts[at] = 0,
+        1 => list.accounts[at] = list.accounts[at.saturating_sub(1)],
+        2 => list.accounts[at] = u32::MAX,
+        3 => {
+            let to = random.index(count);
+            list.accounts.swap(at, to);
+        }
+        4 | 5 => list.shorts[at] = 0,
+        6 => list.shorts[at] = 10_000_001 - list.shorts[at].min(10_000_000),
+        7 => list.shorts[at] = u32::MAX,
+        8 => drop(list.shorts.pop()),
+        9 => drop(list.accounts.pop()),
+        10 => list.shorts.push(1),
+        _ => list.accounts[at] = random.bits() as u32,
+    }
+}
+
+/// A text that reads, with `lines` positions, mostly one that is allocated.
+pub fn text(random: &mut Random, lines: usize) -> Vec<u8> {
+    let method = random.pick(&METHODS);
+    let list = if lines == 0 {
+        Series { accounts: Vec::new(), shorts: Vec::new() }
+    } else {
+        let top = random.pick(&[40, 1_000, 100_000]).max(2 * lines as u64);
+        let most = random.between(lines as u64, top);
+        let mut list = series(random, lines, most, false);
+        if random.one_in(8) {
+            spoil(random, &mut list);
+            list.shorts.resize(lines, 7);
+            list.accounts.resize(lines, 7);
+        }
+        list
+    };
+    let total = list.total().clamp(1, u64::from(u32::MAX) - 1);
+    let (s, d) = if random.one_in(16) {
+        (random.bits() as u32, random.pick(&[0, u32::MAX, 4_294_967, 10]))
+    } else {
+        (exercised(random, total), draw(random, method, total))
+    };
+    reference::write(method, s, d, &list.accounts, &list.shorts, usize::MAX).expect("at most 1,024 lines")
+}
+
+/// How many positions a text gets: mostly few, at times as many as there may be.
+pub fn lines(random: &mut Random) -> usize {
+    let count = match random.below(100) {
+        0..=4 => 0,
+        5..=69 => random.between(1, 6),
+        70..=94 => random.between(7, 40),
+        95..=97 => random.between(41, 400),
+        98 => random.between(1_020, 1_024),
+        _ => 1_024,
+    };
+    count as usize
+}
+
+fn line_starts(text: &[u8]) -> Vec<usize> {
+    let mut starts = vec![0];
+    starts.extend((0..text.len()).filter(|&i| text[i] == 10).map(|i| i + 1));
+    starts
+}
+
+/// The start and end of the numbers in a text.
+fn numbers(text: &[u8]) -> Vec<(usize, usize)> {
+    let mut found = Vec::new();
+    let mut i = 0;
+    while i < text.len() {
+        let start = i;
+        while i < text.len() && text[i].is_ascii_digit() {
+            i += 1;
+        }
+        if i > start {
+            found.push((start, i));
+        }
+        i += 1;
+    }
+    found
+}
+
+/// A byte that is worth having in a text.
+fn byte(random: &mut Random) -> u8 {
+    match random.below(4) {
+        0 => random.bits() as u8,
+        1 => random.pick(b"\n,\r\t +-.0\0"),
+        2 => b'0' + random.below(10) as u8,
+        _ => random.pick(b"WPLwplXaccountshort/:;"),
+    }
+}
+
+/// Damages a text in one way.
+pub fn damage(random: &mut Random, text: &mut Vec<u8>) {
+    let length = text.len();
+    let starts = line_starts(text);
+    let line = random.index(starts.len());
+    let start = starts[line];
+    let end = starts.get(line + 1).copied().unwrap_or(length);
+    match random.below(22) {
+        0..=2 if length > 0 => {
+            let at = random.index(length);
+            text[at] = byte(random);
+        }
+        3 | 4 if length > 0 => {
+            text.remove(random.index(length));
+        }
+        5 | 6 => {
+            let b = byte(random);
+            text.insert(random.index(length + 1), b);
+        }
+        7 => drop(text.drain(start..end)),
+        8 => {
+            let copy = text[start..end].to_vec();
+            text.splice(start..start, copy);
+        }
+        9 => {
+            // The end of one line, or of every line, as CR LF.
+            let all = random.one_in(2);
+            let mut i = text.len();
+            let only = random.index(starts.len());
+            let mut seen = starts.len() - 1;
+            while i > 0 {
+                i -= 1;
+                if text[i] == 10 {
+                    seen -= 1;
+                    if all || seen == only {
+                        text.insert(i, 13);
+                    }
+                }
+            }
+        }
+        10..=12 => {
+            let places = numbers(text);
+            if !places.is_empty() {
+                let (from, to) = random.pick(&places);
+                let new: Vec<u8> = match random.below(9) {
+                    0 => [b"0", &text[from..to]].concat(),
+                    1 => b"00".to_vec(),
+                    2 => b"4294967295".to_vec(),
+                    3 => b"4294967296".to_vec(),
+                    4 => b"10000000000".to_vec(),
+                    5 => b"18446744073709551617".to_vec(),
+                    6 => vec![b'9'; random.between(11, 60) as usize],
+                    7 => Vec::new(),
+                    _ => [&text[from..to], b"0"].concat(),
+                };
+                text.splice(from..to, new);
+            }
+        }
+        13 => text.truncate(random.index(length + 1)),
+        14 => text.truncate(start),
+        15 => text.truncate(end.saturating_sub(1)),
+        16 => text.insert(start, 10),
+        17 => {
+            // Up to and past the number of lines that a text may have.
+            let wanted = random.between(1_024, 1_026) as usize + 3;
+            let extra = random.pick(&[&b"9,9\n"[..], b"\n", b"x\n"]);
+            for _ in starts.len() - 1..wanted {
+                text.extend(extra);
+            }
+            if random.one_in(2) {
+                text.pop();
+            }
+        }
+        18 => {
+            // Up to and past the number of bytes that a text may have.
+            let wanted = random.between(32_766, 32_770) as usize;
+            let fill = byte(random);
+            let at = random.pick(&[start, length]);
+            if length < wanted {
+                text.splice(at..at, vec![fill; wanted - length]);
+            }
+        }
+        19 => {
+            if let Some(at) = text[start..end].iter().position(|&b| b == b',') {
+                let new = random.pick(&[&b",,"[..], b"", b";", b" ,", b", "]);
+                text.splice(start + at..start + at + 1, new.iter().copied());
+            }
+        }
+        20 => {
+            let other = random.index(starts.len());
+            let (a, b) = (starts[line.min(other)], starts[line.max(other)]);
+            text[a..b].reverse();
+        }
+        _ => {
+            // Another method, known or not.
+            if starts.len() > 1 && starts[1] < length {
+                text[starts[1]] = random.pick(b"WPLRwpl ,X");
+            }
+        }
+    }
+}

@@ -1,0 +1,397 @@
+//! The fastest plain Rust we know for the same answers: what the benchmarks measure against.
+
+const ONE: u64 = 1_000_000;
+
+fn known(method: u8) -> bool {
+    matches!(method, b'W' | b'P' | b'L')
+}
+
+fn judge(method: u8, accounts: &[u32], shorts: &[u32], exercised: u32, draw: u32, room: usize) -> Result<u32, u32> {
+    if !known(method) {
+        return Err(14);
+    }
+    let count = accounts.len();
+    if count != shorts.len() {
+        return Err(1);
+    }
+    if count > 4_096 {
+        return Err(2);
+    }
+    if count == 0 {
+        return Err(3);
+    }
+    if room < count {
+        return Err(4);
+    }
+    let mut before = 0;
+    let mut sum = 0u32;
+    for (&account, &short) in accounts.iter().zip(shorts) {
+        if account <= before {
+            return Err(5);
+        }
+        if short == 0 {
+            return Err(6);
+        }
+        if short > 10_000_000 - sum {
+            return Err(7);
+        }
+        sum += short;
+        before = account;
+    }
+    if exercised == 0 {
+        return Err(8);
+    }
+    if exercised > sum {
+        return Err(9);
+    }
+    let highest = match method {
+        b'W' => sum,
+        b'L' => 10_000,
+        _ => return Ok(sum),
+    };
+    if draw == 0 || draw > highest {
+        return Err(10);
+    }
+    Ok(sum)
+}
+
+/// T and the further number, or a refusal.
+pub fn allocate(
+    method: u8,
+    accounts: &[u32],
+    shorts: &[u32],
+    exercised: u32,
+    draw: u32,
+    amounts: &mut [u32],
+) -> Result<(u32, u32), u32> {
+    let total = judge(method, accounts, shorts, exercised, draw, amounts.len())?;
+    let amounts = &mut amounts[..shorts.len()];
+    let further = match method {
+        b'W' => wheel(shorts, total, exercised, draw, amounts),
+        b'P' => pro_rata(shorts, total, exercised, draw, amounts),
+        _ => starting_number(shorts, total, exercised, draw, amounts),
+    };
+    Ok((total, further))
+}
+
+/// As `allocate` for the wheel, with one division for each position and no walk over the blocks.
+pub fn allocate_wheel_by_division(
+    accounts: &[u32],
+    shorts: &[u32],
+    exercised: u32,
+    draw: u32,
+    amounts: &mut [u32],
+) -> Result<(u32, u32), u32> {
+    let total = judge(b'W', accounts, shorts, exercised, draw, amounts.len())?;
+    let amounts = &mut amounts[..shorts.len()];
+    Ok((total, wheel_by_division(shorts, total, exercised, draw, amounts)))
+}
+
+fn interval(total: u32, blocks: u32) -> u64 {
+    let rounded = (2 * u64::from(total) * ONE + u64::from(blocks)) / (2 * u64::from(blocks));
+    rounded.saturating_sub(25 * ONE)
+}
+
+/// The position of a place, and how many of its contracts come from there on.
+fn find(shorts: &[u32], place: u32) -> (usize, u32) {
+    let mut upto = 0;
+    for (position, &short) in shorts.iter().enumerate() {
+        upto += short;
+        if place <= upto {
+            return (position, upto - place + 1);
+        }
+    }
+    unreachable!("the place is at most T")
+}
+
+/// One walk over blocks and positions.
+fn wheel(shorts: &[u32], total: u32, exercised: u32, draw: u32, amounts: &mut [u32]) -> u32 {
+    if exercised == total {
+        amounts.copy_from_slice(shorts);
+        return 0;
+    }
+    let blocks = exercised.div_ceil(25);
+    let interval = interval(total, blocks);
+    let (whole, part) = ((interval / ONE) as u32, (interval % ONE) as u32);
+    amounts.fill(0);
+    let (mut position, mut here) = find(shorts, draw);
+    let mut reserve = 0;
+    let mut left = exercised;
+    loop {
+        let mut size = left.min(25);
+        left -= size;
+        while size >= here {
+            amounts[position] += here;
+            size -= here;
+            position += 1;
+            if position == shorts.len() {
+                position = 0;
+            }
+            here = shorts[position];
+        }
+        amounts[position] += size;
+        here -= size;
+        if left == 0 {
+            return blocks;
+        }
+        let mut skip = whole;
+        reserve += part;
+        if reserve >= ONE as u32 {
+            reserve -= ONE as u32;
+            skip += 1;
+        }
+        while skip >= here {
+            skip -= here;
+            position += 1;
+            if position == shorts.len() {
+                position = 0;
+            }
+            here = shorts[position];
+        }
+        here -= skip;
+    }
+}
+
+fn wheel_by_division(shorts: &[u32], total: u32, exercised: u32, draw: u32, amounts: &mut [u32]) -> u32 {
+    if exercised == total {
+        amounts.copy_from_slice(shorts);
+        return 0;
+    }
+    let blocks = exercised.div_ceil(25);
+    let pace = 25 * ONE + interval(total, blocks);
+    // How many of the first x contracts from the starting place are in blocks. Block j (from 0)
+    // begins after the whole part of j × pace / ONE.
+    let marked = |x: u64| -> u32 {
+        let j = ((x + 1) * ONE - 1) / pace;
+        let into = x - j * pace / ONE;
+        (j * 25 + into.min(25)).min(u64::from(exercised)) as u32
+    };
+    let (first, here) = find(shorts, draw);
+    let mut walked = u64::from(here);
+    let mut before = marked(walked);
+    amounts[first] = before;
+    for position in (first + 1..shorts.len()).chain(0..first) {
+        walked += u64::from(shorts[position]);
+        let upto = marked(walked);
+        amounts[position] = upto - before;
+        before = upto;
+    }
+    amounts[first] += exercised - before;
+    blocks
+}
+
+/// Round one, then the decimal part at which the remainder runs out, then one walk.
+fn pro_rata(shorts: &[u32], total: u32, exercised: u32, draw: u32, amounts: &mut [u32]) -> u32 {
+    let count = shorts.len();
+    if count <= 64 {
+        let (mut decimals, mut ranked) = ([0; 64], [0; 64]);
+        let remaining = round_one(shorts, total, exercised, amounts, &mut decimals[..count]);
+        if remaining > 0 {
+            let ranked = &mut ranked[..count];
+            ranked.copy_from_slice(&decimals[..count]);
+            let (_, &mut last, _) = ranked.select_nth_unstable_by(remaining as usize - 1, |a, b| b.cmp(a));
+            let larger = ranked.iter().filter(|&&d| d > last).count() as u32;
+            let equal = ranked.iter().filter(|&&d| d == last).count() as u32;
+            round_two(amounts, &decimals[..count], last, equal, remaining - larger, draw);
+        }
+        remaining
+    } else {
+        let mut decimals = [0; 4_096];
+        let remaining = round_one(shorts, total, exercised, amounts, &mut decimals[..count]);
+        if remaining > 0 {
+            let (last, equal, left) = cut_off(&decimals[..count], remaining);
+            round_two(amounts, &decimals[..count], last, equal, left, draw);
+        }
+        remaining
+    }
+}
+
+fn round_one(shorts: &[u32], total: u32, exercised: u32, amounts: &mut [u32], decimals: &mut [u32]) -> u32 {
+    // The percentage as 5 and 12 decimals, so that every product fits 64 bits.
+    const PART: u64 = 1_000_000_000_000;
+    let (t, s) = (u64::from(total), u64::from(exercised) * 100_000_000);
+    let percentage = s / t * 1_000_000_000 + s % t * 1_000_000_000 / t;
+    let (high, low) = (percentage / PART, percentage % PART);
+    let mut remaining = exercised;
+    for ((&short, amount), decimal) in shorts.iter().zip(amounts.iter_mut()).zip(decimals.iter_mut()) {
+        let exact = u64::from(short) * high + u64::from(short) * low / PART;
+        let whole = (exact / 100_000) as u32;
+        *amount = whole;
+        remaining -= whole;
+        *decimal = (exact % 100_000) as u32;
+    }
+    remaining
+}
+
+/// The decimal part, how many positions have it, and how many of them are served.
+fn cut_off(decimals: &[u32], remaining: u32) -> (u32, u32, u32) {
+    let mut left = remaining;
+    let mut coarse = [0u16; 196];
+    for &decimal in decimals {
+        coarse[(decimal >> 9) as usize] += 1;
+    }
+    let mut top = coarse.len() - 1;
+    while u32::from(coarse[top]) < left {
+        left -= u32::from(coarse[top]);
+        top -= 1;
+    }
+    let mut fine = [0u16; 512];
+    for &decimal in decimals {
+        if (decimal >> 9) as usize == top {
+            fine[(decimal & 511) as usize] += 1;
+        }
+    }
+    let mut low = fine.len() - 1;
+    while u32::from(fine[low]) < left {
+        left -= u32::from(fine[low]);
+        low -= 1;
+    }
+    (((top << 9) + low) as u32, u32::from(fine[low]), left)
+}
+
+fn round_two(amounts: &mut [u32], decimals: &[u32], last: u32, equal: u32, served: u32, draw: u32) {
+    let begin = draw % equal;
+    let end = begin + served;
+    let mut number = 0;
+    for (amount, &decimal) in amounts.iter_mut().zip(decimals) {
+        if decimal > last {
+            *amount += 1;
+        } else if decimal == last {
+            *amount += u32::from((number >= begin && number < end) || number + equal < end);
+            number += 1;
+        }
+    }
+}
+
+fn starting_number(shorts: &[u32], total: u32, exercised: u32, draw: u32, amounts: &mut [u32]) -> u32 {
+    let start = (u64::from(draw) * u64::from(total)).div_ceil(10_000) as u32;
+    let (first, here) = find(shorts, start);
+    let mut left = exercised - exercised.min(here);
+    let at_first = exercised - left;
+    for position in (first + 1..shorts.len()).chain(0..first) {
+        let take = left.min(shorts[position]);
+        amounts[position] = take;
+        left -= take;
+    }
+    amounts[first] = at_first + left;
+    start
+}
+
+const NAMES_1: &[u8] = b"method,exercised,draw\n";
+const NAMES_3: &[u8] = b"account,short\n";
+
+/// A number from `at` up to the byte `end`; the place after that byte.
+#[inline]
+fn number(text: &[u8], mut at: usize, end: u8) -> Option<(u32, usize)> {
+    let from = at;
+    let mut value = 0u64;
+    while let Some(&b) = text.get(at) {
+        let digit = b.wrapping_sub(b'0');
+        if digit > 9 {
+            if b != end || at == from || (text[from] == b'0' && at > from + 1) || value > u64::from(u32::MAX) {
+                return None;
+            }
+            return Some((value as u32, at + 1));
+        }
+        if at - from == 10 {
+            return None;
+        }
+        value = value * 10 + u64::from(digit);
+        at += 1;
+    }
+    None
+}
+
+/// Method, S, draw and number of positions, or a refusal.
+pub fn read(text: &[u8], accounts: &mut [u32], shorts: &mut [u32]) -> Result<(u8, u32, u32, usize), u32> {
+    if text.len() > 32_768 {
+        return Err(11);
+    }
+    let rest = text.strip_prefix(NAMES_1).ok_or(12u32)?;
+    let line_end = rest.iter().position(|&b| b == 10).ok_or(13u32)?;
+    let line = &rest[..=line_end];
+    if line.iter().filter(|&&b| b == b',').count() != 2 {
+        return Err(13);
+    }
+    let method = line[0];
+    if line[1] != b',' || !known(method) {
+        return Err(14);
+    }
+    let (exercised, at) = number(line, 2, b',').ok_or(13u32)?;
+    let (draw, _) = number(line, at, b'\n').ok_or(13u32)?;
+    let lines = rest[line_end + 1..].strip_prefix(NAMES_3).ok_or(12u32)?;
+    let mut found = [(0u32, 0u32); 1_024];
+    let mut count = 0;
+    let mut at = 0;
+    while at < lines.len() {
+        let slot = found.get_mut(count).ok_or(15u32)?;
+        let (account, next) = number(lines, at, b',').ok_or(13u32)?;
+        let (short, next) = number(lines, next, b'\n').ok_or(13u32)?;
+        *slot = (account, short);
+        count += 1;
+        at = next;
+    }
+    if accounts.len().min(shorts.len()) < count {
+        return Err(4);
+    }
+    for ((account, short), from) in accounts.iter_mut().zip(shorts.iter_mut()).zip(&found[..count]) {
+        (*account, *short) = *from;
+    }
+    Ok((method, exercised, draw, count))
+}
+
+fn digits(n: u32) -> usize {
+    n.checked_ilog10().unwrap_or(0) as usize + 1
+}
+
+#[inline]
+fn put(text: &mut [u8], at: usize, mut n: u32, end: u8) -> usize {
+    let stop = at + digits(n);
+    let field = &mut text[at..=stop];
+    let mut i = field.len() - 1;
+    field[i] = end;
+    while i > 0 {
+        i -= 1;
+        field[i] = b'0' + (n % 10) as u8;
+        n /= 10;
+    }
+    stop + 1
+}
+
+/// The length of the text, or a refusal.
+pub fn write(
+    method: u8,
+    exercised: u32,
+    draw: u32,
+    accounts: &[u32],
+    shorts: &[u32],
+    text: &mut [u8],
+) -> Result<usize, u32> {
+    if !known(method) {
+        return Err(14);
+    }
+    if accounts.len() != shorts.len() {
+        return Err(1);
+    }
+    if accounts.len() > 1_024 {
+        return Err(15);
+    }
+    let fixed = NAMES_1.len() + NAMES_3.len() + 4 + digits(exercised) + digits(draw);
+    let listed: usize = accounts.iter().zip(shorts).map(|(&a, &s)| digits(a) + digits(s) + 2).sum();
+    if text.len() < fixed + listed {
+        return Err(4);
+    }
+    text[..NAMES_1.len()].copy_from_slice(NAMES_1);
+    let mut at = NAMES_1.len();
+    text[at] = method;
+    text[at + 1] = b',';
+    at = put(text, at + 2, exercised, b',');
+    at = put(text, at, draw, b'\n');
+    text[at..at + NAMES_3.len()].copy_from_slice(NAMES_3);
+    at += NAMES_3.len();
+    for (&account, &short) in accounts.iter().zip(shorts) {
+        at = put(text, at, account, b',');
+        at = put(text, at, short, b'\n');
+    }
+    Ok(at)
+}

@@ -1,0 +1,123 @@
+//! Runs the program `assign`: DILBRETH_ASSIGN, or target/bin/assign of the repository.
+
+use std::fs::File;
+use std::io::{Read, Write};
+use std::path::PathBuf;
+use std::process::{Child, Command, Output, Stdio};
+use std::sync::atomic::{AtomicU32, Ordering};
+use std::thread;
+use std::time::Duration;
+
+pub fn path() -> PathBuf {
+    match std::env::var_os("DILBRETH_ASSIGN") {
+        Some(given) => PathBuf::from(given),
+        None => PathBuf::from(concat!(env!("CARGO_MANIFEST_DIR"), "/../../target/bin/assign")),
+    }
+}
+
+/// How a text reaches the program.
+#[derive(Clone, Copy, Debug, PartialEq)]
+pub enum Feed {
+    Pipe,
+    /// A pipe that gives so many bytes at a time.
+    Pieces(usize),
+    File,
+}
+
+pub fn command() -> Command {
+    Command::new(path())
+}
+
+/// Starts the program with its outputs caught.
+pub fn start(input: Stdio) -> Child {
+    command()
+        .stdin(input)
+        .stdout(Stdio::piped())
+        .stderr(Stdio::piped())
+        .spawn()
+        .unwrap_or_else(|e| panic!("{}: {e}", path().display()))
+}
+
+/// A file of its own for the text; removed when dropped.
+pub struct TextFile(PathBuf);
+
+impl TextFile {
+    pub fn new(text: &[u8]) -> TextFile {
+        static NEXT: AtomicU32 = AtomicU32::new(0);
+        let name = format!("dilbreth-{}-{}", std::process::id(), NEXT.fetch_add(1, Ordering::Relaxed));
+        let path = std::env::temp_dir().join(name);
+        std::fs::write(&path, text).expect("a file for the text");
+        TextFile(path)
+    }
+
+    pub fn open(&self) -> File {
+        File::open(&self.0).expect("the file of the text")
+    }
+}
+
+impl Drop for TextFile {
+    fn drop(&mut self) {
+        let _ = std::fs::remove_file(&self.0);
+    }
+}
+
+/// One whole run.
+pub fn run(text: &[u8], feed: Feed) -> Output {
+    if feed == Feed::File {
+        let file = TextFile::new(text);
+        return start(Stdio::from(file.open())).wait_with_output().expect("the program's output");
+    }
+    let mut child = start(Stdio::piped());
+    let mut to = child.stdin.take().expect("a pipe");
+    let text = text.to_vec();
+    let writer = thread::spawn(move || {
+        // A program that has seen enough may stop reading.
+        match feed {
+            Feed::Pieces(size) => {
+                for piece in text.chunks(size) {
+                    if to.write_all(piece).is_err() {
+                        break;
+                    }
+                    thread::sleep(Duration::from_micros(150));
+                }
+            }
+            _ => drop(to.write_all(&text)),
+        }
+    });
+    let output = child.wait_with_output().expect("the program's output");
+    writer.join().expect("the writing thread");
+    output
+}
+
+/// One run, compared; answers whether it was an allocation.
+pub fn compare(text: &[u8], feed: Feed) -> Result<bool, String> {
+    let expected = reference::printed(text);
+    let allocated = !expected.starts_with(b"refused");
+    let found = run(text, feed);
+    let quiet = !allocated || found.stderr.is_empty();
+    if found.stdout == expected && quiet && found.status.code().is_some() {
+        return Ok(allocated);
+    }
+    Err(format!(
+        "{}\n  by {feed:?}: expected {:?}, found {:?}, standard error {:?}, {}",
+        crate::cases::program(text, feed),
+        String::from_utf8_lossy(&expected),
+        String::from_utf8_lossy(&found.stdout),
+        String::from_utf8_lossy(&found.stderr),
+        found.status
+    ))
+}
+
+/// All that a started program writes: standard output, standard error.
+pub fn finish(child: Child) -> (Vec<u8>, Vec<u8>) {
+    let output = child.wait_with_output().expect("the program's output");
+    assert!(output.status.code().is_some(), "ended by a signal: {}", output.status);
+    (output.stdout, output.stderr)
+}
+
+/// Reads a stream to its end.
+pub fn all(mut from: impl Read) -> Vec<u8> {
+    let mut bytes = Vec::new();
+    from.read_to_end(&mut bytes).expect("a stream that can be read");
+    bytes
+}

@@ -1,0 +1,61 @@
+// What the benchmarks measure against gives the same answers.
+
+use compare::random::Random;
+use compare::{cases, make, plain};
+
+#[test]
+fn plain_allocation() {
+    let mut random = Random::new(0xBE7C_0001);
+    for case in 0..20_000 {
+        let (positions, most) = if case % 100 == 0 { (4_096, 300_000) } else { (40, 2_000) };
+        let positions = random.between(1, positions);
+        let most = random.between(positions, most);
+        let mut list = make::series(&mut random, positions as usize, most, false);
+        let method = random.pick(&make::METHODS);
+        let exercised = make::exercised(&mut random, list.total());
+        let draw = make::draw(&mut random, method, list.total());
+        if random.one_in(10) {
+            make::spoil(&mut random, &mut list);
+        }
+        let room = list.accounts.len() - usize::from(random.one_in(20));
+        let expected = reference::allocate(method, &list.accounts, &list.shorts, exercised, draw, room);
+        let shown = cases::allocate(method, &list.accounts, &list.shorts, exercised, draw, room);
+        let mut amounts = vec![77; room];
+        let found = plain::allocate(method, &list.accounts, &list.shorts, exercised, draw, &mut amounts);
+        let found = found.map(|(total, further)| reference::Allocation { amounts, total, further });
+        assert_eq!(found, expected, "{shown}");
+        if method == b'W' {
+            let mut amounts = vec![77; room];
+            let found = plain::allocate_wheel_by_division(&list.accounts, &list.shorts, exercised, draw, &mut amounts);
+            let found = found.map(|(total, further)| reference::Allocation { amounts, total, further });
+            assert_eq!(found, expected, "by division: {shown}");
+        }
+    }
+}
+
+#[test]
+fn plain_texts() {
+    let mut random = Random::new(0xBE7C_0002);
+    for _ in 0..15_000 {
+        let lines = make::lines(&mut random);
+        let mut text = make::text(&mut random, lines);
+        if random.one_in(2) {
+            make::damage(&mut random, &mut text);
+        }
+        let room = random.pick(&[1_024, lines]);
+        let (mut accounts, mut shorts) = (vec![0; room], vec![0; room]);
+        let found = plain::read(&text, &mut accounts, &mut shorts);
+        let found = found.map(|(method, exercised, draw, count)| {
+            accounts.truncate(count);
+            shorts.truncate(count);
+            reference::Series { method, exercised, draw, accounts, shorts }
+        });
+        assert_eq!(found, reference::read(&text, room, room), "{}", cases::read(&text, room, room));
+        if let Ok(s) = found {
+            let mut out = vec![0; text.len() + 5];
+            let length = plain::write(s.method, s.exercised, s.draw, &s.accounts, &s.shorts, &mut out);
+            assert_eq!(length, Ok(text.len()));
+            assert_eq!(out[..text.len()], text[..]);
+        }
+    }
+}

@@ -1,0 +1,147 @@
+// The program `assign`, from pipes, files and streams that fail.
+
+use std::fs::File;
+use std::io::Write;
+use std::os::fd::OwnedFd;
+use std::os::unix::net::UnixStream;
+use std::process::{Command, Stdio};
+
+use compare::program::{self, Feed, TextFile};
+use compare::random::Random;
+use compare::{make, Count};
+
+const M: &[u8] = b"method,exercised,draw\nL,13,4855\naccount,short\n1,5\n2,8\n3,2\n4,10\n5,11\n";
+const M_ASSIGNED: &[u8] = b"account,assigned\n1,0\n2,0\n3,0\n4,8\n5,5\n";
+
+// Nothing on standard output, one line on standard error.
+fn failed(what: &str, (out, err): (Vec<u8>, Vec<u8>)) {
+    let shown = String::from_utf8_lossy(&err);
+    assert!(out.is_empty(), "{what}: standard output {:?}", String::from_utf8_lossy(&out));
+    assert!(err.len() > 1 && err.ends_with(b"\n"), "{what}: standard error {shown:?}");
+    assert_eq!(err.iter().filter(|&&b| b == 10).count(), 1, "{what}: standard error {shown:?}");
+}
+
+#[test]
+fn case_m_in_full() {
+    for feed in [Feed::Pipe, Feed::File, Feed::Pieces(1)] {
+        assert_eq!(program::run(M, feed).stdout, M_ASSIGNED);
+        assert_eq!(program::compare(M, feed), Ok(true));
+    }
+}
+
+#[test]
+fn random_texts() {
+    let mut random = Random::new(0xA551_0001);
+    let mut count = Count::new("program, random texts");
+    for case in 0..600 {
+        let lines = make::lines(&mut random);
+        let mut text = make::text(&mut random, lines);
+        if case % 3 != 0 {
+            for _ in 0..random.pick(&[1, 1, 2]) {
+                make::damage(&mut random, &mut text);
+            }
+        }
+        let feed = if case % 4 == 0 { Feed::File } else { Feed::Pipe };
+        count.case(program::compare(&text, feed));
+    }
+    count.print();
+}
+
+#[test]
+fn a_few_bytes_at_a_time() {
+    let mut random = Random::new(0xA551_0002);
+    let mut count = Count::new("program, in pieces");
+    for size in [1, 1, 1, 2, 3, 7] {
+        let text = make::text(&mut random, 12);
+        count.case(program::compare(&text, Feed::Pieces(size)));
+    }
+    for size in [100, 1_000, 4_096, 8_191] {
+        let text = make::text(&mut random, 1_024);
+        count.case(program::compare(&text, Feed::Pieces(size)));
+    }
+    count.case(program::compare(&vec![b'1'; 32_768], Feed::Pieces(4_095)));
+    count.case(program::compare(&vec![b'1'; 32_769], Feed::Pieces(4_096)));
+    count.case(program::compare(&M[..40], Feed::Pieces(1)));
+    count.print();
+}
+
+#[test]
+fn empty_and_too_long() {
+    let mut count = Count::new("program, empty and long");
+    for feed in [Feed::Pipe, Feed::File] {
+        count.case(program::compare(b"", feed));
+        count.case(program::compare(b"\n", feed));
+        for lines in [1_023, 1_024, 1_025] {
+            let mut text = b"method,exercised,draw\nP,400,7\naccount,short\n".to_vec();
+            for account in 0..lines {
+                text.extend(format!("{},{}\n", 4_294_960_000u32 + account, 1 + account % 3).bytes());
+            }
+            count.case(program::compare(&text, feed));
+        }
+        for length in [32_767, 32_768, 32_769, 32_770, 65_535, 65_536, 65_537, 300_000] {
+            let mut text = M.to_vec();
+            text.resize(length, b'\n');
+            count.case(program::compare(&text, feed));
+        }
+    }
+    count.print();
+}
+
+#[test]
+fn a_failed_read() {
+    failed("a folder", program::finish(program::start(Stdio::from(File::open("/").unwrap()))));
+    let closed = Command::new("/bin/sh")
+        .args(["-c", "exec \"$0\" <&-"])
+        .arg(program::path())
+        .stdout(Stdio::piped())
+        .stderr(Stdio::piped())
+        .spawn()
+        .unwrap();
+    failed("closed", program::finish(closed));
+    let write_only = File::options().write(true).open("/dev/null").unwrap();
+    failed("not open for reading", program::finish(program::start(Stdio::from(write_only))));
+}
+
+// A stream that fails after its first bytes, cut at a line's end: what came is a valid, shorter text.
+#[test]
+fn a_read_that_fails_midway() {
+    for end in [0, 22, 32, 46, 50, 54, 58, 63, M.len()] {
+        let (mut ours, mut theirs) = UnixStream::pair().unwrap();
+        ours.write_all(&M[..end]).unwrap();
+        // A byte that is never read: closing our end then resets the stream.
+        theirs.write_all(b"x").unwrap();
+        drop(ours);
+        let child = program::start(Stdio::from(OwnedFd::from(theirs)));
+        failed(&format!("reset after {end} bytes"), program::finish(child));
+    }
+}
+
+#[test]
+fn a_failed_write() {
+    for (text, least) in [(M, 1), (&b""[..], 1)] {
+        let file = TextFile::new(text);
+        let full = File::options().write(true).open("/dev/full").unwrap();
+        let mut child = program::command()
+            .stdin(Stdio::from(file.open()))
+            .stdout(Stdio::from(full))
+            .stderr(Stdio::piped())
+            .spawn()
+            .unwrap();
+        let err = program::all(child.stderr.take().unwrap());
+        assert!(child.wait().unwrap().code().is_some());
+        let lines = err.iter().filter(|&&b| b == 10).count();
+        // After an allocation there is nothing else to say; a refusal may have its own line.
+        assert!(lines >= least && lines <= if text.is_empty() { 2 } else { 1 }, "{:?}", String::from_utf8_lossy(&err));
+        assert!(err.ends_with(b"\n"));
+    }
+    let file = TextFile::new(M);
+    let closed = Command::new("/bin/sh")
+        .args(["-c", "exec \"$0\" >&-"])
+        .arg(program::path())
+        .stdin(Stdio::from(file.open()))
+        .stdout(Stdio::null())
+        .stderr(Stdio::piped())
+        .spawn()
+        .unwrap();
+    failed("standard output closed", program::finish(closed));
+}

@@ -1,0 +1,245 @@
+// Texts, two of three damaged, through reading, writing and responding.
+
+use compare::random::Random;
+use compare::{make, Count};
+
+// Rooms around what is needed.
+fn rooms(random: &mut Random, needed: usize) -> [usize; 3] {
+    [needed, needed + 1 + random.index(9), needed - random.between(0, needed.min(3) as u64) as usize]
+}
+
+fn through(random: &mut Random, text: &[u8], reading: &mut Count, writing: &mut Count, responding: &mut Count) {
+    let series = reference::read_text(text);
+    let positions = series.as_ref().map_or(3, |s| s.accounts.len());
+    let rooms_a = rooms(random, positions);
+    let rooms_s = rooms(random, positions);
+    reading.case(compare::read(text, rooms_a[0], rooms_s[0]));
+    reading.case(compare::read(text, rooms_a[1], rooms_s[1]));
+    reading.case(compare::read(text, rooms_a[2], rooms_s[1]));
+    reading.case(compare::read(text, rooms_a[1], rooms_s[2]));
+    for room in rooms(random, reference::printed(text).len()) {
+        responding.case(compare::respond(text, room));
+    }
+    if let Ok(s) = series {
+        let written = reference::write(s.method, s.exercised, s.draw, &s.accounts, &s.shorts, usize::MAX).unwrap();
+        assert_eq!(written, text, "a series has one text only");
+        for room in rooms(random, text.len()) {
+            writing.case(compare::write(s.method, s.exercised, s.draw, &s.accounts, &s.shorts, room));
+        }
+    }
+}
+
+#[test]
+fn random_texts() {
+    let mut random = Random::new(0x7E87_0001);
+    let mut reading = Count::new("texts read");
+    let mut writing = Count::new("texts written");
+    let mut responding = Count::new("texts responded to");
+    let (mut whole, mut damaged) = (0, 0);
+    let mut met = [0; 16];
+    while whole + damaged < 45_000 {
+        let lines = make::lines(&mut random);
+        let mut text = make::text(&mut random, lines);
+        if (whole + damaged) % 3 == 0 {
+            whole += 1;
+        } else {
+            let before = text.clone();
+            for _ in 0..random.pick(&[1, 1, 1, 2, 3]) {
+                make::damage(&mut random, &mut text);
+            }
+            if text == before {
+                continue;
+            }
+            damaged += 1;
+        }
+        if let Err(number) = reference::read_text(&text) {
+            met[number as usize] += 1;
+        }
+        through(&mut random, &text, &mut reading, &mut writing, &mut responding);
+    }
+    println!(
+        "texts: {whole} whole, {damaged} damaged; refusals met: 11 {}, 12 {}, 13 {}, 14 {}, 15 {}",
+        met[11], met[12], met[13], met[14], met[15]
+    );
+    assert!(met[11..].iter().all(|&n| n > 50));
+    reading.print();
+    writing.print();
+    responding.print();
+}
+
+const M: &[u8] = b"method,exercised,draw\nL,13,4855\naccount,short\n1,5\n2,8\n3,2\n4,10\n5,11\n";
+
+#[test]
+fn cut_at_every_place() {
+    let mut count = Count::new("texts cut");
+    for end in 0..=M.len() {
+        for start in [0, 1, 22] {
+            let part = &M[start.min(end)..end];
+            count.case(compare::read(part, 5, 5));
+            count.case(compare::read(part, 1, 0));
+            count.case(compare::respond(part, 100));
+        }
+    }
+    count.print();
+}
+
+#[test]
+fn every_byte_at_every_place() {
+    let mut count = Count::new("texts with one byte changed, put in or removed");
+    for at in 0..=M.len() {
+        for byte in 0..=255 {
+            let put_in = [&M[..at], &[byte], &M[at..]].concat();
+            count.case(compare::read(&put_in, 6, 6));
+            count.case(compare::respond(&put_in, 100));
+            if at < M.len() {
+                let mut changed = M.to_vec();
+                changed[at] = byte;
+                count.case(compare::read(&changed, 6, 6));
+                count.case(compare::respond(&changed, 100));
+            }
+        }
+        if at < M.len() {
+            let removed = [&M[..at], &M[at + 1..]].concat();
+            count.case(compare::read(&removed, 6, 6));
+            count.case(compare::respond(&removed, 100));
+        }
+    }
+    count.print();
+}
+
+#[test]
+fn numbers_in_every_field() {
+    let mut count = Count::new("numbers");
+    let numbers = [
+        "",
+        "0",
+        "1",
+        "9",
+        "00",
+        "01",
+        "10",
+        "007",
+        "4294967294",
+        "4294967295",
+        "4294967296",
+        "4294967299",
+        "4294967300",
+        "4300000000",
+        "9999999999",
+        "04294967295",
+        "10000000000",
+        "42949672950",
+        "18446744073709551615",
+        "18446744073709551616",
+        "18446744073709551617",
+        "340282366920938463463374607431768211457",
+        "1844674407370955161600000000000000000001",
+        "+1",
+        "-1",
+        "1.",
+        "1e3",
+        "0x1",
+        " 1",
+        "1 ",
+        "1\r",
+        "\x001",
+        "1\0",
+        "١",
+    ];
+    let long = "9".repeat(30_000);
+    for number in numbers.into_iter().chain([&long[..]]) {
+        for (a, b, c) in [
+            ("W,", ",5\naccount,short\n1,7\n", ""),
+            ("P,1,", "\naccount,short\n1,7\n", ""),
+            ("L,1,5\naccount,short\n", ",7\n", ""),
+            ("L,1,5\naccount,short\n1,7\n2,", "\n3,3\n", ""),
+        ] {
+            let text = ["method,exercised,draw\n", a, number, b, c].concat();
+            count.case(compare::read(text.as_bytes(), 4, 4));
+            count.case(compare::read(text.as_bytes(), 0, 4));
+            count.case(compare::respond(text.as_bytes(), 200));
+        }
+    }
+    count.print();
+}
+
+#[test]
+fn lines_and_bytes_at_the_limit() {
+    let mut count = Count::new("texts at the limits");
+    let head = b"method,exercised,draw\nW,26,7\naccount,short\n";
+    for lines in [0usize, 1, 1_023, 1_024, 1_025, 1_026, 2_000] {
+        let mut body = Vec::new();
+        for account in 1..=lines {
+            body.extend(format!("{account},3\n").bytes());
+        }
+        for end in ["", "\n", "x", "0", "9999,3", "9999,3\n"] {
+            let text = [&head[..], &body, end.as_bytes()].concat();
+            for room in [0, 1_023, 1_024, 1_025] {
+                count.case(compare::read(&text, room, 1_025));
+                count.case(compare::read(&text, 1_025, room));
+            }
+            let needed = reference::printed(&text).len();
+            for room in [0, needed - 1, needed, needed + 3] {
+                count.case(compare::respond(&text, room));
+            }
+        }
+        // A fault in the last line that may stand, and one past it.
+        for at in [lines.saturating_sub(1), lines / 2] {
+            let text = [&head[..], &b"5,5\n".repeat(at), b"5,5,\n", &b"5,5\n".repeat(lines - at)].concat();
+            count.case(compare::read(&text, 1_025, 1_025));
+            count.case(compare::respond(&text, 20));
+        }
+    }
+    for length in [32_766, 32_767, 32_768, 32_769, 32_770, 40_000, 65_536, 65_537, 100_000, 1_000_000] {
+        for fill in [b'x', b'0', b'9', b'\n', b',', 0] {
+            for start in [
+                &b""[..],
+                b"method,exercised,draw\n",
+                b"method,exercised,draw\nW,1,",
+                head,
+                b"method,exercised,draw\nW,26,7\naccount,short\n1,3\n2,",
+                &M[..60],
+            ] {
+                let mut text = start.to_vec();
+                text.resize(length, fill);
+                count.case(compare::read(&text, 1_024, 1_024));
+                count.case(compare::read(&text, 0, 0));
+                count.case(compare::respond(&text, 20));
+                count.case(compare::respond(&text, 9));
+            }
+        }
+    }
+    count.print();
+}
+
+#[test]
+fn random_writing() {
+    let mut random = Random::new(0x7E87_0002);
+    let mut count = Count::new("random series written");
+    for _ in 0..8_000 {
+        let mut lengths = [make::lines(&mut random); 2];
+        match random.below(20) {
+            0 => lengths[1] = lengths[1].saturating_sub(1),
+            1 => lengths[0] += 1,
+            2 => lengths = [random.pick(&[1_024, 1_025, 1_026, 4_096, 5_000]); 2],
+            _ => {}
+        }
+        let mut number = || match random.below(5) {
+            0 => 0,
+            1 => u32::MAX,
+            2 => 10u32.pow(random.between(0, 9) as u32) - random.below(2) as u32,
+            3 => random.spread(u64::from(u32::MAX)) as u32,
+            _ => random.bits() as u32,
+        };
+        let accounts: Vec<u32> = (0..lengths[0]).map(|_| number()).collect();
+        let shorts: Vec<u32> = (0..lengths[1]).map(|_| number()).collect();
+        let (exercised, draw) = (number(), number());
+        let method = random.pick(b"WPLWPLWPLwX");
+        let needed = reference::write(method, exercised, draw, &accounts, &shorts, usize::MAX).map_or(60, |t| t.len());
+        for room in rooms(&mut random, needed) {
+            count.case(compare::write(method, exercised, draw, &accounts, &shorts, room));
+        }
+        count.case(compare::write(method, exercised, draw, &accounts, &shorts, random.index(60)));
+    }
+    count.print();
+}

@@ -1,0 +1,55 @@
+// The safe wrapper, by the series with known amounts.
+
+use dilbreth::{Allocated, Method, Refused, Terms};
+
+type Known = (Method, &'static [u32], u32, u32, &'static [u32], u32);
+
+const KNOWN: [Known; 12] = [
+    (Method::Wheel, &[60, 200, 95], 175, 1, &[35, 97, 43], 7),
+    (Method::Wheel, &[60, 200, 95], 175, 340, &[34, 98, 43], 7),
+    (Method::Wheel, &[10, 20], 26, 29, &[10, 16], 2),
+    (Method::Wheel, &[50, 50], 30, 1, &[25, 5], 2),
+    (Method::Wheel, &[76, 1, 77], 150, 1, &[75, 0, 75], 6),
+    (Method::ProRata, &[5, 3, 2], 4, 0, &[2, 1, 1], 1),
+    (Method::ProRata, &[3], 1, 0, &[1], 1),
+    (Method::ProRata, &[1, 1, 1], 1, 5, &[0, 0, 1], 1),
+    (Method::ProRata, &[1, 1, 1], 2, 2, &[1, 0, 1], 2),
+    (Method::ProRata, &[3, 1, 2], 2, 0, &[1, 0, 1], 2),
+    (Method::StartingNumber, &[5, 8, 2, 10, 11], 13, 4855, &[0, 0, 0, 8, 5], 18),
+    (Method::StartingNumber, &[5, 8, 2, 10, 11], 2, 10000, &[1, 0, 0, 0, 1], 36),
+];
+
+#[test]
+fn series_with_known_amounts() {
+    for (method, shorts, exercised, draw, expected, further) in KNOWN {
+        let accounts: Vec<u32> = (1..=shorts.len() as u32).collect();
+        let mut amounts = vec![9; shorts.len() + 1];
+        let answer = dilbreth::allocate(method, &accounts, shorts, exercised, draw, &mut amounts);
+        assert_eq!(answer, Ok(Allocated { total: shorts.iter().sum(), further }));
+        assert_eq!(amounts[..shorts.len()], *expected);
+        assert_eq!(amounts[shorts.len()], 9);
+    }
+}
+
+#[test]
+fn case_m_in_full() {
+    let text = b"method,exercised,draw\nL,13,4855\naccount,short\n1,5\n2,8\n3,2\n4,10\n5,11\n";
+    let (mut accounts, mut shorts) = ([0; 6], [0; 6]);
+    let terms = dilbreth::read(text, &mut accounts, &mut shorts).unwrap();
+    assert_eq!(terms, Terms { method: Method::StartingNumber, exercised: 13, draw: 4855, positions: 5 });
+    assert_eq!((accounts, shorts), ([1, 2, 3, 4, 5, 0], [5, 8, 2, 10, 11, 0]));
+    let mut bytes = [0; 100];
+    let length = dilbreth::write(terms.method, 13, 4855, &accounts[..5], &shorts[..5], &mut bytes).unwrap();
+    assert_eq!(bytes[..length], text[..]);
+    let length = dilbreth::respond(text, &mut bytes).unwrap();
+    assert_eq!(&bytes[..length], b"account,assigned\n1,0\n2,0\n3,0\n4,8\n5,5\n");
+}
+
+#[test]
+fn refusals_are_errors() {
+    assert_eq!(dilbreth::allocate(Method::Wheel, &[1], &[36], 37, 1, &mut [0]), Err(Refused(9)));
+    assert_eq!(dilbreth::read(b"", &mut [], &mut []), Err(Refused(12)));
+    assert_eq!(dilbreth::write(Method::Wheel, 1, 1, &[1], &[], &mut []), Err(Refused(1)));
+    assert_eq!(dilbreth::respond(b"", &mut []), Err(Refused(4)));
+    assert_eq!(Refused(3).to_string(), "refused, 3: no positions");
+}

@@ -1,0 +1,89 @@
+//! The four calls in their C shape, over slices and references: each answers 0 or the number of a
+//! refusal, and on a refusal writes nothing.
+
+use crate::ffi;
+
+// Each `unsafe` below: a reference is never null, a slice has its length, and what is lent as `&mut`
+// overlaps with nothing else.
+
+#[allow(clippy::too_many_arguments)]
+pub fn allocate(
+    method: u8,
+    accounts: &[u32],
+    shorts: &[u32],
+    exercised: u32,
+    draw: u32,
+    amounts: &mut [u32],
+    total: &mut u32,
+    further: &mut u32,
+) -> u32 {
+    unsafe {
+        ffi::dilbreth_allocate(
+            method,
+            accounts.as_ptr(),
+            accounts.len(),
+            shorts.as_ptr(),
+            shorts.len(),
+            exercised,
+            draw,
+            amounts.as_mut_ptr(),
+            amounts.len(),
+            total,
+            further,
+        )
+    }
+}
+
+pub fn read(
+    text: &[u8],
+    accounts: &mut [u32],
+    shorts: &mut [u32],
+    method: &mut u8,
+    exercised: &mut u32,
+    draw: &mut u32,
+    positions: &mut usize,
+) -> u32 {
+    unsafe {
+        ffi::dilbreth_read(
+            text.as_ptr(),
+            text.len(),
+            accounts.as_mut_ptr(),
+            accounts.len(),
+            shorts.as_mut_ptr(),
+            shorts.len(),
+            method,
+            exercised,
+            draw,
+            positions,
+        )
+    }
+}
+
+pub fn write(
+    method: u8,
+    exercised: u32,
+    draw: u32,
+    accounts: &[u32],
+    shorts: &[u32],
+    text: &mut [u8],
+    written: &mut usize,
+) -> u32 {
+    unsafe {
+        ffi::dilbreth_write(
+            method,
+            exercised,
+            draw,
+            accounts.as_ptr(),
+            accounts.len(),
+            shorts.as_ptr(),
+            shorts.len(),
+            text.as_mut_ptr(),
+            text.len(),
+            written,
+        )
+    }
+}
+
+pub fn respond(text: &[u8], output: &mut [u8], written: &mut usize) -> u32 {
+    unsafe { ffi::dilbreth_respond(text.as_ptr(), text.len(), output.as_mut_ptr(), output.len(), written) }
+}

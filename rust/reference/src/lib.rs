@@ -1,0 +1,326 @@
+//! Exercise assignment, written step by step from the document.
+//! Slow on purpose: it is what the library is compared with.
+
+use std::cmp::Reverse;
+
+pub const MOST_POSITIONS: usize = 4_096;
+pub const MOST_LINES: usize = 1_024;
+pub const MOST_CONTRACTS: u64 = 10_000_000;
+pub const MOST_BYTES: usize = 32_768;
+pub const INCREMENT: u64 = 25;
+
+const NAMES_1: &[u8] = b"method,exercised,draw\n";
+const NAMES_3: &[u8] = b"account,short\n";
+
+#[derive(Clone, Debug, PartialEq, Eq)]
+pub struct Allocation {
+    pub amounts: Vec<u32>,
+    pub total: u32,
+    pub further: u32,
+}
+
+#[derive(Clone, Debug, PartialEq, Eq)]
+pub struct Series {
+    pub method: u8,
+    pub exercised: u32,
+    pub draw: u32,
+    pub accounts: Vec<u32>,
+    pub shorts: Vec<u32>,
+}
+
+fn known(method: u8) -> bool {
+    [b'W', b'P', b'L'].contains(&method)
+}
+
+/// The first refusal of the allocating call that applies, or T.
+pub fn judge(method: u8, accounts: &[u32], shorts: &[u32], exercised: u32, draw: u32, room: usize) -> Result<u32, u32> {
+    if !known(method) {
+        return Err(14);
+    }
+    let lengths = [
+        (1, accounts.len() != shorts.len()),
+        (2, accounts.len() > MOST_POSITIONS),
+        (3, accounts.is_empty()),
+        (4, room < accounts.len()),
+    ];
+    for (number, applies) in lengths {
+        if applies {
+            return Err(number);
+        }
+    }
+    let mut before = 0;
+    let mut sum = 0u64;
+    for (&account, &short) in accounts.iter().zip(shorts) {
+        sum += u64::from(short);
+        for (number, applies) in [(5, account <= before), (6, short == 0), (7, sum > MOST_CONTRACTS)] {
+            if applies {
+                return Err(number);
+            }
+        }
+        before = account;
+    }
+    let highest = match method {
+        b'W' => sum,
+        b'L' => 10_000,
+        _ => u64::from(u32::MAX),
+    };
+    let lowest = if method == b'P' { 0 } else { 1 };
+    let rest =
+        [(8, exercised == 0), (9, u64::from(exercised) > sum), (10, !(lowest..=highest).contains(&u64::from(draw)))];
+    for (number, applies) in rest {
+        if applies {
+            return Err(number);
+        }
+    }
+    Ok(sum as u32)
+}
+
+/// The allocating call; `room` is the length of its output.
+pub fn allocate(
+    method: u8,
+    accounts: &[u32],
+    shorts: &[u32],
+    exercised: u32,
+    draw: u32,
+    room: usize,
+) -> Result<Allocation, u32> {
+    let total = judge(method, accounts, shorts, exercised, draw, room)?;
+    let (amounts, further) = match method {
+        b'W' => wheel(shorts, total, exercised, draw),
+        b'P' => pro_rata(shorts, total, exercised, draw),
+        _ => starting_number(shorts, total, exercised, draw),
+    };
+    Ok(Allocation { amounts, total, further })
+}
+
+/// The position that each contract belongs to; contract n stands at index n - 1.
+fn owners(shorts: &[u32]) -> Vec<u16> {
+    let mut of = Vec::with_capacity(shorts.iter().map(|&s| s as usize).sum());
+    for (position, &short) in shorts.iter().enumerate() {
+        for _ in 0..short {
+            of.push(position as u16);
+        }
+    }
+    of
+}
+
+/// T / T1 to six places, to the nearest, a half up; less the increment, not below zero.
+pub fn skip_interval(total: u32, blocks: u32) -> u64 {
+    let exact = u64::from(total) * 1_000_000;
+    let by = u64::from(blocks);
+    let mut millionths = exact / by;
+    if exact % by >= by - exact % by {
+        millionths += 1;
+    }
+    millionths.saturating_sub(INCREMENT * 1_000_000)
+}
+
+/// Steps the counter round the wheel one contract at a time; calls `mark` with the number of the
+/// block, from 1, and the place of each contract in it. Answers T1.
+pub fn turn(total: u32, exercised: u32, draw: u32, mut mark: impl FnMut(u32, u32)) -> u32 {
+    let blocks = u64::from(exercised).div_ceil(INCREMENT) as u32;
+    let interval = skip_interval(total, blocks);
+    let next = |place: u32| if place == total { 1 } else { place + 1 };
+    let mut place = draw;
+    let mut left = exercised;
+    let mut reserve = 0;
+    for block in 1..=blocks {
+        if block > 1 {
+            let skip = interval + reserve;
+            reserve = skip % 1_000_000;
+            for _ in 0..skip / 1_000_000 {
+                place = next(place);
+            }
+        }
+        for _ in 0..left.min(INCREMENT as u32) {
+            mark(block, place);
+            place = next(place);
+            left -= 1;
+        }
+    }
+    blocks
+}
+
+fn wheel(shorts: &[u32], total: u32, exercised: u32, draw: u32) -> (Vec<u32>, u32) {
+    if exercised == total {
+        return (shorts.to_vec(), 0);
+    }
+    let owners = owners(shorts);
+    let mut marked = vec![false; owners.len()];
+    let mut amounts = vec![0; shorts.len()];
+    let blocks = turn(total, exercised, draw, |_, place| {
+        let at = place as usize - 1;
+        assert!(!marked[at], "contract {place} is marked twice: T {total}, S {exercised}, draw {draw}");
+        marked[at] = true;
+        amounts[owners[at] as usize] += 1;
+    });
+    (amounts, blocks)
+}
+
+fn pro_rata(shorts: &[u32], total: u32, exercised: u32, draw: u32) -> (Vec<u32>, u32) {
+    let percentage = u128::from(exercised) * 10u128.pow(17) / u128::from(total);
+    // In hundred-thousandths of a contract.
+    let exact: Vec<u128> = shorts.iter().map(|&s| u128::from(s) * percentage / 10u128.pow(12)).collect();
+    let mut amounts: Vec<u32> = exact.iter().map(|a| (a / 100_000) as u32).collect();
+    let decimals: Vec<u32> = exact.iter().map(|a| (a % 100_000) as u32).collect();
+    let remaining = exercised as usize - amounts.iter().map(|&a| a as usize).sum::<usize>();
+    assert!(remaining <= shorts.len(), "round two has {remaining} contracts for {} positions", shorts.len());
+    if remaining > 0 {
+        let mut ranked: Vec<usize> = (0..shorts.len()).collect();
+        ranked.sort_by_key(|&p| Reverse(decimals[p]));
+        let last = decimals[ranked[remaining - 1]];
+        let (larger, equal): (Vec<usize>, Vec<usize>) =
+            ranked.into_iter().filter(|&p| decimals[p] >= last).partition(|&p| decimals[p] > last);
+        for &p in &larger {
+            amounts[p] += 1;
+        }
+        let begin = draw as usize % equal.len();
+        for &p in equal.iter().cycle().skip(begin).take(remaining - larger.len()) {
+            amounts[p] += 1;
+        }
+    }
+    (amounts, remaining as u32)
+}
+
+/// draw × T / 10,000, rounded up.
+pub fn starting_place(total: u32, draw: u32) -> u32 {
+    (u64::from(draw) * u64::from(total)).div_ceil(10_000) as u32
+}
+
+fn starting_number(shorts: &[u32], total: u32, exercised: u32, draw: u32) -> (Vec<u32>, u32) {
+    let owners = owners(shorts);
+    let start = starting_place(total, draw);
+    let mut amounts = vec![0; shorts.len()];
+    for k in 0..exercised {
+        let contract = (start - 1 + k) % total + 1;
+        amounts[owners[contract as usize - 1] as usize] += 1;
+    }
+    (amounts, start)
+}
+
+fn number(field: &[u8]) -> Result<u32, u32> {
+    let digits = std::str::from_utf8(field).map_err(|_| 13u32)?;
+    if !digits.chars().all(|c| c.is_ascii_digit()) {
+        return Err(13);
+    }
+    let value: u32 = digits.parse().map_err(|_| 13u32)?;
+    // Only the one spelling without leading zeros.
+    if value.to_string() == digits {
+        Ok(value)
+    } else {
+        Err(13)
+    }
+}
+
+/// The fields of a line that ends with byte 10.
+fn fields(line: &[u8], count: usize) -> Result<Vec<&[u8]>, u32> {
+    let line = line.strip_suffix(b"\n").ok_or(13u32)?;
+    let fields: Vec<&[u8]> = line.split(|&b| b == b',').collect();
+    if fields.len() == count {
+        Ok(fields)
+    } else {
+        Err(13)
+    }
+}
+
+/// Reads a text without regard to the room of the lent lists.
+pub fn read_text(text: &[u8]) -> Result<Series, u32> {
+    if text.len() > MOST_BYTES {
+        return Err(11);
+    }
+    let mut lines = text.split_inclusive(|&b| b == b'\n');
+    if lines.next() != Some(NAMES_1) {
+        return Err(12);
+    }
+    let line = fields(lines.next().unwrap_or(b""), 3)?;
+    let method = match line[0] {
+        [byte] if known(*byte) => *byte,
+        _ => return Err(14),
+    };
+    let exercised = number(line[1])?;
+    let draw = number(line[2])?;
+    if lines.next() != Some(NAMES_3) {
+        return Err(12);
+    }
+    let mut series = Series { method, exercised, draw, accounts: Vec::new(), shorts: Vec::new() };
+    for line in lines {
+        if series.accounts.len() == MOST_LINES {
+            return Err(15);
+        }
+        let line = fields(line, 2)?;
+        let (account, short) = (number(line[0])?, number(line[1])?);
+        series.accounts.push(account);
+        series.shorts.push(short);
+    }
+    Ok(series)
+}
+
+/// The reading call; the rooms are the lengths of the two lent lists.
+pub fn read(text: &[u8], accounts_room: usize, shorts_room: usize) -> Result<Series, u32> {
+    let series = read_text(text)?;
+    if accounts_room.min(shorts_room) < series.accounts.len() {
+        return Err(4);
+    }
+    Ok(series)
+}
+
+/// The writing call; `room` is the length of its output.
+pub fn write(
+    method: u8,
+    exercised: u32,
+    draw: u32,
+    accounts: &[u32],
+    shorts: &[u32],
+    room: usize,
+) -> Result<Vec<u8>, u32> {
+    if !known(method) {
+        return Err(14);
+    }
+    if accounts.len() != shorts.len() {
+        return Err(1);
+    }
+    if accounts.len() > MOST_LINES {
+        return Err(15);
+    }
+    let mut text = NAMES_1.to_vec();
+    text.extend(format!("{},{exercised},{draw}\n", char::from(method)).bytes());
+    text.extend(NAMES_3);
+    for (account, short) in accounts.iter().zip(shorts) {
+        text.extend(format!("{account},{short}\n").bytes());
+    }
+    if room < text.len() {
+        return Err(4);
+    }
+    Ok(text)
+}
+
+/// The bytes that the program prints for a text.
+pub fn printed(text: &[u8]) -> Vec<u8> {
+    let answer = read_text(text).and_then(|s| {
+        let found = allocate(s.method, &s.accounts, &s.shorts, s.exercised, s.draw, s.accounts.len())?;
+        Ok((s.accounts, found.amounts))
+    });
+    let mut out = String::new();
+    match answer {
+        Ok((accounts, amounts)) => {
+            out.push_str("account,assigned\n");
+            for (account, amount) in accounts.iter().zip(&amounts) {
+                out.push_str(&format!("{account},{amount}\n"));
+            }
+        }
+        Err(number) => out.push_str(&format!("refused\n{number}\n")),
+    }
+    out.into_bytes()
+}
+
+/// The responding call; `room` is the length of its output.
+pub fn respond(text: &[u8], room: usize) -> Result<Vec<u8>, u32> {
+    let out = printed(text);
+    if room < out.len() {
+        return Err(4);
+    }
+    Ok(out)
+}
+
+#[cfg(test)]
+mod tests;

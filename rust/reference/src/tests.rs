@@ -1,0 +1,252 @@
+use super::*;
+
+// Method, shorts, S, draw, amounts, T and the further number, from the document's table.
+type Known = (u8, &'static [u32], u32, u32, &'static [u32], u32, u32);
+const KNOWN: [Known; 12] = [
+    (b'W', &[60, 200, 95], 175, 1, &[35, 97, 43], 355, 7),
+    (b'W', &[60, 200, 95], 175, 340, &[34, 98, 43], 355, 7),
+    (b'W', &[10, 20], 26, 29, &[10, 16], 30, 2),
+    (b'W', &[50, 50], 30, 1, &[25, 5], 100, 2),
+    (b'W', &[76, 1, 77], 150, 1, &[75, 0, 75], 154, 6),
+    (b'P', &[5, 3, 2], 4, 0, &[2, 1, 1], 10, 1),
+    (b'P', &[3], 1, 0, &[1], 3, 1),
+    (b'P', &[1, 1, 1], 1, 5, &[0, 0, 1], 3, 1),
+    (b'P', &[1, 1, 1], 2, 2, &[1, 0, 1], 3, 2),
+    (b'P', &[3, 1, 2], 2, 0, &[1, 0, 1], 6, 2),
+    (b'L', &[5, 8, 2, 10, 11], 13, 4855, &[0, 0, 0, 8, 5], 36, 18),
+    (b'L', &[5, 8, 2, 10, 11], 2, 10000, &[1, 0, 0, 0, 1], 36, 36),
+];
+
+fn upward(count: usize) -> Vec<u32> {
+    (1..=count as u32).collect()
+}
+
+fn answer(method: u8, shorts: &[u32], exercised: u32, draw: u32) -> Result<Allocation, u32> {
+    allocate(method, &upward(shorts.len()), shorts, exercised, draw, shorts.len())
+}
+
+fn blocks(total: u32, exercised: u32, draw: u32) -> Vec<(u32, u32)> {
+    let mut all: Vec<(u32, u32)> = Vec::new();
+    turn(total, exercised, draw, |block, place| {
+        if all.len() < block as usize {
+            all.push((place, place));
+        }
+        all.last_mut().unwrap().1 = place;
+    });
+    all
+}
+
+#[test]
+fn series_with_known_amounts() {
+    for (method, shorts, exercised, draw, amounts, total, further) in KNOWN {
+        let found = answer(method, shorts, exercised, draw);
+        assert_eq!(found, Ok(Allocation { amounts: amounts.to_vec(), total, further }), "{method} {shorts:?}");
+    }
+}
+
+#[test]
+fn blocks_of_the_source_example() {
+    let expected = [(1, 25), (51, 75), (102, 126), (153, 177), (203, 227), (254, 278), (305, 329)];
+    assert_eq!(blocks(355, 175, 1), expected);
+    assert_eq!(skip_interval(355, 7), 25_714_286);
+}
+
+#[test]
+fn readings_that_look_the_same() {
+    assert_eq!(skip_interval(30, 2), 0);
+    assert_eq!(skip_interval(100, 2), 25_000_000);
+    assert_eq!(skip_interval(154, 6), 666_667);
+    assert_eq!(blocks(154, 150, 1)[3].0, 78);
+    assert_eq!(blocks(355, 175, 1)[2].0, 102);
+    assert_eq!(starting_place(36, 4855), 18);
+    // An exact half goes up: 3201 / 128 = 25.0078125.
+    assert_eq!(skip_interval(3201, 128), 7_813);
+    assert_eq!(skip_interval(3203, 128), 23_438);
+}
+
+#[test]
+fn case_m_in_full() {
+    let text = b"method,exercised,draw\nL,13,4855\naccount,short\n1,5\n2,8\n3,2\n4,10\n5,11\n";
+    let output = b"account,assigned\n1,0\n2,0\n3,0\n4,8\n5,5\n";
+    assert_eq!(printed(text), output);
+    assert_eq!(respond(text, output.len()), Ok(output.to_vec()));
+    assert_eq!(respond(text, output.len() - 1), Err(4));
+    let series = read(text, 5, 5).unwrap();
+    assert_eq!((series.method, series.exercised, series.draw), (b'L', 13, 4855));
+    assert_eq!(series.accounts, [1, 2, 3, 4, 5]);
+    assert_eq!(series.shorts, [5, 8, 2, 10, 11]);
+    assert_eq!(write(b'L', 13, 4855, &series.accounts, &series.shorts, text.len()), Ok(text.to_vec()));
+}
+
+#[test]
+fn facts_at_the_edges() {
+    assert_eq!(starting_place(3, 3333), 1);
+    assert_eq!(starting_place(3, 3334), 2);
+    let m = [5, 8, 2, 10, 11];
+    for method in [b'W', b'P', b'L'] {
+        assert_eq!(answer(method, &m, 36, 1).unwrap().amounts, m);
+        assert_eq!(answer(method, &m, 37, 1), Err(9));
+    }
+    assert!(answer(b'W', &m, 13, 36).is_ok());
+    assert_eq!(answer(b'W', &m, 13, 0), Err(10));
+    assert_eq!(answer(b'W', &m, 13, 37), Err(10));
+    assert_eq!(answer(b'W', &m, 36, 36).unwrap().further, 0);
+    assert_eq!(answer(b'W', &m, 36, 37), Err(10));
+    assert_eq!(answer(b'L', &m, 36, 0), Err(10));
+    assert_eq!(answer(b'L', &m, 36, 10_001), Err(10));
+    assert!(answer(b'L', &m, 36, 10_000).is_ok());
+    assert!(answer(b'P', &m, 13, u32::MAX).is_ok());
+    assert_eq!(answer(b'P', &m, 36, 0).unwrap().further, 0);
+}
+
+#[test]
+fn amounts_add_up_and_keep_within_the_shorts() {
+    let lists: [&[u32]; 5] = [&[1], &[7, 1, 30], &[25, 25, 25], &[100, 3, 3, 3, 1], &[13, 77, 26, 9]];
+    for shorts in lists {
+        let total: u32 = shorts.iter().sum();
+        for method in [b'W', b'P', b'L'] {
+            for exercised in 1..=total {
+                for draw in 1..=total {
+                    let found = answer(method, shorts, exercised, draw).unwrap();
+                    assert_eq!(found.amounts.iter().sum::<u32>(), exercised);
+                    for (amount, short) in found.amounts.iter().zip(shorts) {
+                        assert!(amount <= short);
+                        if method == b'P' {
+                            assert!((short * exercised).abs_diff(total * amount) < total);
+                        }
+                    }
+                }
+            }
+        }
+    }
+}
+
+#[test]
+fn shares_over_all_starting_places() {
+    for shorts in [&[7, 1, 30][..], &[25, 25, 26], &[60, 20, 95]] {
+        let total: u32 = shorts.iter().sum();
+        for exercised in 1..=total {
+            let mut sums = vec![0; shorts.len()];
+            for place in 1..=total {
+                let amounts = answer(b'W', shorts, exercised, place).unwrap().amounts;
+                for (sum, amount) in sums.iter_mut().zip(amounts) {
+                    *sum += amount;
+                }
+            }
+            for (sum, short) in sums.iter().zip(shorts) {
+                assert_eq!(*sum, short * exercised);
+            }
+        }
+    }
+}
+
+#[test]
+fn allocating_refusals_in_order() {
+    let many = upward(4_097);
+    let ones = vec![1; 4_097];
+    assert_eq!(allocate(b'X', &[1], &[], 0, 0, 0), Err(14));
+    assert_eq!(allocate(b'w', &[1], &[1], 1, 1, 1), Err(14));
+    assert_eq!(allocate(b'W', &many, &ones[..4_096], 0, 0, 0), Err(1));
+    assert_eq!(allocate(b'W', &[], &[1], 0, 0, 0), Err(1));
+    assert_eq!(allocate(b'W', &many, &ones, 0, 0, 0), Err(2));
+    assert_eq!(allocate(b'W', &many[..4_096], &ones[..4_096], 1, 1, 4_096).map(|a| a.total), Ok(4_096));
+    assert_eq!(allocate(b'W', &[], &[], 0, 0, 0), Err(3));
+    assert_eq!(allocate(b'W', &[0], &[0], 0, 0, 0), Err(4));
+    assert_eq!(allocate(b'W', &[0], &[0], 0, 0, 1), Err(5));
+    assert_eq!(allocate(b'W', &[2, 2], &[1, 0], 0, 0, 2), Err(5));
+    assert_eq!(allocate(b'W', &[2, 1], &[1, u32::MAX], 0, 0, 2), Err(5));
+    assert_eq!(allocate(b'W', &[2, 1], &[0, 1], 0, 0, 2), Err(6));
+    assert_eq!(allocate(b'W', &[2, 1], &[10_000_001, 1], 0, 0, 2), Err(7));
+    assert_eq!(allocate(b'W', &[1, 2], &[10_000_000, 0], 0, 0, 2), Err(6));
+    assert_eq!(allocate(b'W', &[1, 2], &[10_000_000, 1], 0, 0, 2), Err(7));
+    assert_eq!(allocate(b'W', &[1, 2], &[u32::MAX, u32::MAX], 0, 0, 2), Err(7));
+    assert_eq!(allocate(b'W', &[1], &[10_000_000], 0, 0, 1), Err(8));
+    assert_eq!(allocate(b'W', &[1], &[10_000_000], 10_000_001, 0, 1), Err(9));
+    assert_eq!(allocate(b'W', &[1], &[10_000_000], 10_000_000, 0, 1), Err(10));
+    assert_eq!(allocate(b'P', &[u32::MAX], &[10_000_000], 10_000_000, 0, 1).map(|a| a.total), Ok(10_000_000));
+}
+
+fn text(line_2: &str, line_3: &str, rest: &str) -> Vec<u8> {
+    format!("method,exercised,draw\n{line_2}{line_3}{rest}").into_bytes()
+}
+
+#[test]
+fn reading_refusals_in_order() {
+    let good = "account,short\n";
+    assert_eq!(read_text(b""), Err(12));
+    assert_eq!(read_text(b"\n"), Err(12));
+    assert_eq!(read_text(b"method,exercised,draw"), Err(12));
+    assert_eq!(read_text(b"method,exercised,draw\r\n"), Err(12));
+    assert_eq!(read_text(b"method,exercised,draw\n"), Err(13));
+    for (line, number) in [
+        ("W,1,1", 13),
+        ("W,1\n", 13),
+        ("X,1\n", 13),
+        ("X,1,1,1\n", 13),
+        ("X,a,1\n", 14),
+        (",a,1\n", 14),
+        ("WW,1,1\n", 14),
+        ("w,1,1\n", 14),
+        ("W ,1,1\n", 14),
+        ("W,a,1\n", 13),
+        ("W,,1\n", 13),
+        ("W,1,\n", 13),
+        ("W,01,1\n", 13),
+        ("W,00,1\n", 13),
+        ("W,+1,1\n", 13),
+        ("W,-1,1\n", 13),
+        ("W, 1,1\n", 13),
+        ("W,1,1\r\n", 13),
+        ("W,4294967296,1\n", 13),
+        ("W,99999999999999999999999999999999999999999,1\n", 13),
+        ("W,1,é\n", 13),
+    ] {
+        assert_eq!(read_text(&text(line, "no names", "")), Err(number), "{line:?}");
+    }
+    for line in ["", "\n", "account,short", "account,short\r\n", "account,shorts\n", "1,1\n", " account,short\n"] {
+        assert_eq!(read_text(&text("W,1,1\n", line, "")), Err(12), "{line:?}");
+    }
+    for line in ["\n", "1,1", "1\n", "1,1,1\n", "1,\n", ",1\n", "1,01\n", "1,1\n\n", "1,1\r\n", "a\n", "1,4294967296\n"]
+    {
+        assert_eq!(read_text(&text("W,1,1\n", good, line)), Err(13), "{line:?}");
+    }
+    let empty = read_text(&text("P,0,4294967295\n", good, "")).unwrap();
+    assert_eq!((empty.exercised, empty.draw, empty.accounts.len()), (0, u32::MAX, 0));
+    let most = "0,0\n".repeat(1_024);
+    assert_eq!(read_text(&text("W,1,1\n", good, &most)).unwrap().accounts.len(), 1_024);
+    for extra in ["0,0\n", "\n", "x", "0,0"] {
+        assert_eq!(read_text(&text("W,1,1\n", good, &format!("{most}{extra}"))), Err(15));
+    }
+    // The 1,024th line is judged before the 1,025th is met.
+    assert_eq!(read_text(&text("W,1,1\n", good, &format!("{}x\nx\n", "0,0\n".repeat(1_023)))), Err(13));
+    assert_eq!(read_text(&vec![b'x'; 32_769]), Err(11));
+    assert_eq!(read_text(&vec![b'x'; 32_768]), Err(12));
+    let one = text("W,1,1\n", good, "1,1\n");
+    for (accounts, shorts, answer) in [(0, 1, Some(4)), (1, 0, Some(4)), (1, 1, None), (2, 3, None)] {
+        assert_eq!(read(&one, accounts, shorts).err(), answer);
+    }
+    assert_eq!(read(&text("W,1,1\n", good, "1,1\nx\n"), 0, 0), Err(13));
+}
+
+#[test]
+fn writing_refusals_in_order() {
+    let list = vec![0; 1_025];
+    assert_eq!(write(b'w', 0, 0, &[1], &[], 0), Err(14));
+    assert_eq!(write(b'W', 0, 0, &list, &list[1..], 0), Err(1));
+    assert_eq!(write(b'W', 0, 0, &list, &list, 0), Err(15));
+    assert_eq!(write(b'W', 0, 0, &list[1..], &list[1..], 0), Err(4));
+    let short = write(b'P', 0, u32::MAX, &[], &[], 100).unwrap();
+    assert_eq!(short, b"method,exercised,draw\nP,0,4294967295\naccount,short\n");
+    assert_eq!(write(b'P', 0, u32::MAX, &[], &[], short.len()), Ok(short.clone()));
+    assert_eq!(write(b'P', 0, u32::MAX, &[], &[], short.len() - 1), Err(4));
+}
+
+#[test]
+fn printed_refusals() {
+    assert_eq!(printed(b""), b"refused\n12\n");
+    assert_eq!(printed(&text("W,1,1\n", "account,short\n", "")), b"refused\n3\n");
+    assert_eq!(printed(&text("W,1,1\n", "account,short\n", "1,1\n1,0\n")), b"refused\n5\n");
+    assert_eq!(printed(&text("W,1,2\n", "account,short\n", "1,1\n")), b"refused\n10\n");
+    assert_eq!(respond(b"", 10), Err(4));
+    assert_eq!(respond(b"", 11), Ok(b"refused\n12\n".to_vec()));
+}

@@ -1,0 +1,126 @@
+/* The archive and its header, from C: case M, starred series, a refusal of each call. */
+#include <inttypes.h>
+#include <stdio.h>
+#include <string.h>
+
+#include "dilbreth.h"
+
+static int wrong;
+
+static void see(const char *what, int holds)
+{
+    printf("%s: %s\n", what, holds ? "ok" : "WRONG");
+    if (!holds)
+        wrong++;
+}
+
+static const char M[] = "method,exercised,draw\nL,13,4855\naccount,short\n1,5\n2,8\n3,2\n4,10\n5,11\n";
+static const char M_ASSIGNED[] = "account,assigned\n1,0\n2,0\n3,0\n4,8\n5,5\n";
+
+static const uint32_t ACCOUNTS[5] = {1, 2, 3, 4, 5};
+
+struct series {
+    const char *name;
+    uint8_t method;
+    size_t count;
+    uint32_t shorts[5], exercised, draw, amounts[5], total, further;
+};
+
+static const struct series KNOWN[] = {
+    {"A", DILBRETH_WHEEL, 3, {60, 200, 95}, 175, 1, {35, 97, 43}, 355, 7},
+    {"B", DILBRETH_WHEEL, 3, {60, 200, 95}, 175, 340, {34, 98, 43}, 355, 7},
+    {"C", DILBRETH_WHEEL, 2, {10, 20}, 26, 29, {10, 16}, 30, 2},
+    {"E", DILBRETH_WHEEL, 3, {76, 1, 77}, 150, 1, {75, 0, 75}, 154, 6},
+    {"G", DILBRETH_PRO_RATA, 1, {3}, 1, 0, {1}, 3, 1},
+    {"H", DILBRETH_PRO_RATA, 3, {1, 1, 1}, 1, 5, {0, 0, 1}, 3, 1},
+    {"K", DILBRETH_PRO_RATA, 3, {3, 1, 2}, 2, 0, {1, 0, 1}, 6, 2},
+    {"M", DILBRETH_STARTING_NUMBER, 5, {5, 8, 2, 10, 11}, 13, 4855, {0, 0, 0, 8, 5}, 36, 18},
+    {"N", DILBRETH_STARTING_NUMBER, 5, {5, 8, 2, 10, 11}, 2, 10000, {1, 0, 0, 0, 1}, 36, 36},
+};
+
+static void known(const struct series *s)
+{
+    uint32_t amounts[6], total = 77, further = 77, number;
+    char what[32];
+    size_t i;
+    int holds;
+
+    for (i = 0; i < 6; i++)
+        amounts[i] = 999;
+    number = dilbreth_allocate(s->method, ACCOUNTS, s->count, s->shorts, s->count, s->exercised, s->draw,
+                               amounts, 6, &total, &further);
+    holds = number == 0 && total == s->total && further == s->further;
+    for (i = 0; i < 6; i++)
+        holds = holds && amounts[i] == (i < s->count ? s->amounts[i] : 999);
+    snprintf(what, sizeof what, "series %s", s->name);
+    see(what, holds);
+}
+
+static void case_m(void)
+{
+    const size_t length = sizeof M - 1, printed = sizeof M_ASSIGNED - 1;
+    uint32_t accounts[6] = {0}, shorts[6] = {0}, exercised = 0, draw = 0;
+    uint8_t method = 0, text[100], output[100];
+    size_t positions = 0, written = 0;
+
+    accounts[5] = shorts[5] = 999;
+    see("case M read", dilbreth_read((const uint8_t *)M, length, accounts, 6, shorts, 6, &method, &exercised,
+                                     &draw, &positions) == 0 &&
+                           method == 'L' && exercised == 13 && draw == 4855 && positions == 5 &&
+                           memcmp(accounts, ACCOUNTS, sizeof ACCOUNTS) == 0 && shorts[0] == 5 && shorts[1] == 8 &&
+                           shorts[2] == 2 && shorts[3] == 10 && shorts[4] == 11 && accounts[5] == 999 &&
+                           shorts[5] == 999);
+    memset(text, 0xEE, sizeof text);
+    see("case M written", dilbreth_write('L', 13, 4855, accounts, 5, shorts, 5, text, sizeof text, &written) == 0 &&
+                              written == length && memcmp(text, M, length) == 0 && text[length] == 0xEE);
+    memset(output, 0xEE, sizeof output);
+    see("case M responded to",
+        dilbreth_respond((const uint8_t *)M, length, output, sizeof output, &written) == 0 && written == printed &&
+            memcmp(output, M_ASSIGNED, printed) == 0 && output[printed] == 0xEE);
+}
+
+static void refusals(void)
+{
+    static const uint32_t shorts[5] = {5, 8, 2, 10, 11};
+    const size_t length = sizeof M - 1;
+    uint32_t amounts[5] = {9, 9, 9, 9, 9}, other[5] = {9, 9, 9, 9, 9}, total = 77, further = 78;
+    uint32_t exercised = 79, draw = 80;
+    uint8_t method = 81, bytes[100], before[100];
+    size_t positions = 82, written = 83;
+    int kept;
+
+    memset(bytes, 0xEE, sizeof bytes);
+    memset(before, 0xEE, sizeof before);
+    see("allocate refuses 14", dilbreth_allocate('X', ACCOUNTS, 5, shorts, 4, 0, 0, amounts, 0, &total, &further) == 14);
+    see("allocate refuses 1", dilbreth_allocate('W', ACCOUNTS, 5, shorts, 4, 0, 0, amounts, 5, &total, &further) == 1);
+    see("allocate refuses 4", dilbreth_allocate('W', ACCOUNTS, 5, shorts, 5, 0, 0, amounts, 4, &total, &further) == 4);
+    see("allocate refuses 9", dilbreth_allocate('P', ACCOUNTS, 5, shorts, 5, 37, 0, amounts, 5, &total, &further) == 9);
+    see("allocate refuses 10",
+        dilbreth_allocate('W', ACCOUNTS, 5, shorts, 5, 36, 37, amounts, 5, &total, &further) == 10);
+    see("read refuses 13", dilbreth_read((const uint8_t *)M, length - 1, amounts, 5, other, 5, &method, &exercised,
+                                         &draw, &positions) == 13);
+    see("read refuses 4", dilbreth_read((const uint8_t *)M, length, amounts, 5, other, 4, &method, &exercised, &draw,
+                                        &positions) == 4);
+    see("write refuses 14", dilbreth_write('l', 13, 4855, ACCOUNTS, 5, shorts, 4, bytes, 0, &written) == 14);
+    see("write refuses 4", dilbreth_write('L', 13, 4855, ACCOUNTS, 5, shorts, 5, bytes, length - 1, &written) == 4);
+    see("respond refuses 4",
+        dilbreth_respond((const uint8_t *)M, length, bytes, sizeof M_ASSIGNED - 2, &written) == 4);
+    kept = amounts[0] == 9 && memcmp(amounts, other, sizeof amounts) == 0 && total == 77 && further == 78 &&
+           exercised == 79 && draw == 80 && method == 81 && positions == 82 && written == 83 &&
+           memcmp(bytes, before, sizeof bytes) == 0;
+    see("refusals keep every output", kept);
+    see("respond writes a refusal of the text", dilbreth_respond(bytes, 0, bytes + 1, 11, &written) == 0 &&
+                                                    written == 11 && memcmp(bytes + 1, "refused\n12\n", 11) == 0);
+}
+
+int main(void)
+{
+    size_t i;
+
+    for (i = 0; i < sizeof KNOWN / sizeof KNOWN[0]; i++)
+        known(&KNOWN[i]);
+    case_m();
+    refusals();
+    printf("C: %d wrong\n", wrong);
+    return wrong != 0;
+}
