@@ -119,3 +119,8 @@ span a e = listed (λ i. a + i) (suc e - a)
 pub blocks-of-A : wheelMarks 25 355 175 1 ≡ span 1 25 ++ (span 51 75 ++ (span 102 126 ++ (span 153 177 ++ (span 203 227 ++ (span 254 278 ++ span 305 329)))))
 unfolding span listed next steps run blocks interval marks wheelMarks
 blocks-of-A = refl
+
+-- the blocks of D: T1 is rounded up before T is divided by it
+pub blocks-of-D : wheelMarks 25 100 30 1 ≡ span 1 25 ++ span 51 55
+unfolding span listed next steps run blocks interval marks wheelMarks
+blocks-of-D = refl

@@ -1,0 +1,156 @@
+// Calls of the allocating call, a line for each: a label, the answer, and every element of an output that held 7 eight times.
+mod print;
+
+use print::lottery;
+use print::pro_rata;
+use print::show;
+use print::wheel;
+use series::Method;
+
+// The starred series under W.
+fn wheel_series() {
+    wheel(b"A", &[1, 2, 3], &[60, 200, 95], 175, 1);
+    wheel(b"B", &[1, 2, 3], &[60, 200, 95], 175, 340);
+    wheel(b"C", &[1, 2], &[10, 20], 26, 29);
+    wheel(b"D", &[1, 2], &[50, 50], 30, 1);
+    wheel(b"E", &[1, 2, 3], &[76, 1, 77], 150, 1);
+}
+
+// The starred series under P.
+fn pro_rata_series() {
+    pro_rata(b"F", &[1, 2, 3], &[5, 3, 2], 4, 0);
+    pro_rata(b"G", &[1], &[3], 1, 0);
+    pro_rata(b"H", &[1, 2, 3], &[1, 1, 1], 1, 5);
+    pro_rata(b"J", &[1, 2, 3], &[1, 1, 1], 2, 2);
+    pro_rata(b"K", &[1, 2, 3], &[3, 1, 2], 2, 0);
+}
+
+// The starred series under L, and two draws with T = 3.
+fn lottery_series() {
+    let accounts = [1, 2, 3, 4, 5];
+    let shorts = [5, 8, 2, 10, 11];
+    lottery(b"M", &accounts, &shorts, 13, 4855);
+    lottery(b"N", &accounts, &shorts, 2, 10000);
+    lottery(b"T 3, draw 3333", &[1, 2, 3], &[1, 1, 1], 1, 3333);
+    lottery(b"T 3, draw 3334", &[1, 2, 3], &[1, 1, 1], 1, 3334);
+}
+
+// S equal to T and one above it, T being 36; and an output as long as the list.
+fn whole() {
+    let accounts = [1, 2, 3, 4, 5];
+    let shorts = [5, 8, 2, 10, 11];
+    lottery(b"L, S is T", &accounts, &shorts, 36, 1);
+    lottery(b"L, S above T", &accounts, &shorts, 37, 1);
+    wheel(b"W, S is T, draw 36", &accounts, &shorts, 36, 36);
+    wheel(b"W, S is T, draw 1", &accounts, &shorts, 36, 1);
+    wheel(b"W, S is T, draw 0", &accounts, &shorts, 36, 0);
+    wheel(b"W, S is T, draw 37", &accounts, &shorts, 36, 37);
+    pro_rata(b"P, S is T", &accounts, &shorts, 36, 0);
+    show(
+        b"no room to spare",
+        Method::Wheel,
+        &accounts,
+        &shorts,
+        30,
+        36,
+        5,
+    );
+}
+
+// Draws, an account and totals as large as they may be.
+fn largest() {
+    pro_rata(b"no tie", &[1, 2, 3], &[5, 3, 2], 4, 4_294_967_295);
+    pro_rata(b"tie", &[1, 2, 3], &[1, 1, 1], 1, 4_294_967_295);
+    lottery(b"largest account", &[1, 4_294_967_295], &[4, 4], 5, 7777);
+    wheel(
+        b"W, largest T",
+        &[1, 2, 3],
+        &[9_000_000, 999_999, 1],
+        70_001,
+        10_000_000,
+    );
+    pro_rata(b"P, largest T", &[1, 2], &[9_999_999, 1], 9_999_999, 0);
+    lottery(b"L, largest T", &[1, 2], &[9_999_999, 1], 2, 10000);
+}
+
+// Refusals of the list's length.
+fn lengths() {
+    wheel(b"1", &[1, 2], &[1], 1, 1);
+    show(b"1 before 4", Method::Wheel, &[1], &[1, 1], 1, 1, 1);
+    show(b"4", Method::Wheel, &[1, 2, 3], &[5, 3, 2], 4, 1, 2);
+    show(b"4 before 5", Method::Wheel, &[0], &[1], 1, 1, 0);
+}
+
+// The same of lists of 0, 4,096 and 4,097 positions.
+fn long_and_empty() {
+    let accounts = [1u32; 4097];
+    let shorts = [1u32; 4097];
+    wheel(b"1 before 2", &accounts[..4096], &shorts, 1, 1);
+    wheel(b"1 before 3", &accounts[..1], &shorts[..0], 1, 1);
+    wheel(b"2 before 4", &accounts, &shorts, 1, 1);
+    wheel(b"4 and not 2", &accounts[..4096], &shorts[..4096], 1, 1);
+    wheel(b"3 before 9", &accounts[..0], &shorts[..0], 1, 1);
+    pro_rata(b"3 before 8", &accounts[..0], &shorts[..0], 0, 1);
+}
+
+// Refusals of an account.
+fn accounts() {
+    wheel(b"5, account 0", &[0], &[1], 1, 1);
+    wheel(b"5, account twice", &[1, 1], &[1, 1], 1, 1);
+    wheel(b"5, account below", &[2, 1], &[1, 1], 1, 1);
+    wheel(b"5 before 6", &[1, 1], &[1, 0], 1, 1);
+    wheel(b"5 before 7", &[0], &[10_000_001], 1, 1);
+    wheel(b"5 before 8", &[0], &[1], 0, 1);
+}
+
+// Refusals of a position's shorts.
+fn shorts() {
+    wheel(b"6", &[1, 2], &[1, 0], 1, 1);
+    wheel(b"6 before 7", &[1, 2], &[0, 10_000_001], 1, 1);
+    wheel(b"6 before 5", &[1, 1], &[0, 1], 1, 1);
+    wheel(b"6 before 8", &[1], &[0], 0, 1);
+    wheel(b"7", &[1, 2], &[10_000_000, 1], 1, 1);
+    wheel(
+        b"7 past 32 bits",
+        &[1, 2],
+        &[10_000_000, 4_294_967_295],
+        1,
+        1,
+    );
+    wheel(b"7 before 5", &[1, 1], &[10_000_001, 1], 1, 1);
+    wheel(b"7 before 6", &[1, 2], &[10_000_001, 0], 1, 1);
+    wheel(b"7 before 8", &[1], &[10_000_001], 0, 1);
+    wheel(b"7 before 9", &[1], &[10_000_001], 4_294_967_295, 1);
+}
+
+// Refusals of S.
+fn exercised() {
+    wheel(b"8", &[1], &[36], 0, 1);
+    wheel(b"8 before 10, W", &[1], &[36], 0, 0);
+    lottery(b"8 before 10, L", &[1], &[36], 0, 0);
+    wheel(b"9", &[1], &[36], 37, 1);
+    wheel(b"9 before 10, W", &[1], &[36], 37, 37);
+    lottery(b"9 before 10, L", &[1], &[36], 37, 10001);
+}
+
+// Refusals of the draw.
+fn draws() {
+    wheel(b"10, W, draw 0", &[1], &[36], 1, 0);
+    wheel(b"10, W, draw above T", &[1], &[36], 1, 37);
+    lottery(b"10, L, draw 0", &[1], &[36], 1, 0);
+    lottery(b"10, L, draw above 10000", &[1], &[36], 1, 10001);
+}
+
+fn main() {
+    wheel_series();
+    pro_rata_series();
+    lottery_series();
+    whole();
+    largest();
+    lengths();
+    long_and_empty();
+    accounts();
+    shorts();
+    exercised();
+    draws();
+}
