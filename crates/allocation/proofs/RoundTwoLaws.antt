@@ -4,7 +4,6 @@ use mathlib.Core.Path.{_≡_, sym, ap, ap₂, _∙_}
 use mathlib.Core.List.{List}
 use native.Mathlib.Omega.{arith}
 use native.Mathlib.Nat.{mod-eq-of-lt, mod-mod}
-use native.Mathlib.Numerals.{add-one}
 use native.Mathlib.Decide.{decLt, ℕ-discrete}
 use borrow.Author.Tests.{lt-ltb, le-ltb, eq-eqb, ne-eqb}
 use lib.Dec.{eqb, ltb}
@@ -12,7 +11,7 @@ use lib.ListN.{length}
 use Rattle.series.specs.Sums.{bit}
 use Rattle.series.specs.ProRata.{turn, larger, equal, roundTwo}
 use Rattle.series.proofs.SumLaws.{bit-le, listed-cong}
-use Rattle.series.proofs.ProRataLaws.{turn-first, turn-after, atLeast, atLeast-parts, larger-next, by-cut}
+use Rattle.series.proofs.ProRataLaws.{turn-first, turn-after, by-cut}
 use Rattle.allocation.specs.ProRata.{at, added, atCutOff, byCutOff, CutOffAt}
 
 -- the turn of a tied position, with no division
@@ -48,24 +47,26 @@ module _ (c first g m x k : ℕ) where
             ]
       ]
 
--- the positions above c
-pub above-count : (d : ℕ → ℕ) (c n : ℕ) → larger d (c + 1) n + equal d (c + 1) n ≡ larger d c n
-above-count d c n = sym (atLeast-parts d (c + 1) n) ∙ ap (λ x. atLeast d x n) (add-one c) ∙ sym (larger-next d c n)
-
 -- only the draw modulo g counts
 turn-mod : (draw g k : ℕ) → turn (draw % g) g k ≡ turn draw g k
 unfolding turn
 turn-mod draw g k = ap (λ s. (k + (g - s)) % g) (mod-mod draw g)
 
 -- the service by the cut-off is that of the rules
-module _ (d : ℕ → ℕ) (n draw left c : ℕ) (cut : CutOffAt d n left c) where
-  by-rank : (i : ℕ) → i < n → byCutOff d c (draw % equal d c n) (equal d c n) (left - larger d c n) i ≡ roundTwo d n draw left i
+module _ (d : ℕ → ℕ) (n left c l g : ℕ) (cut : CutOffAt d n left c l g) where
+  pub tied-some : 0 < g
+  tied-some = omega (arith, cut .fewer, cut .enough, cut .tied-are)
+
+  pub serves : left - l ≤ g
+  serves = omega (arith, cut .enough, cut .larger-are, cut .tied-are)
+
+  by-rank : (draw i : ℕ) → i < n → byCutOff d c (draw % equal d c n) (equal d c n) (left - larger d c n) i ≡ roundTwo d n draw left i
   unfolding atCutOff
-  by-rank i h =
+  by-rank draw i h =
       ap (λ t. bit (ltb c (d i)) + bit (eqb (d i) c) * bit (ltb t (left - larger d c n))) (turn-mod draw (equal d c n) (equal d c i))
       ∙ sym (by-cut d n draw left c (cut .fewer) (cut .enough) i h)
 
-  pub service : (xs : List ℕ) (g m : ℕ) → length xs ≡ n → g ≡ equal d c n → m ≡ left - larger d c n → added xs (byCutOff d c (draw % g) g m) ≡ added xs (roundTwo d n draw left)
-  service xs g m e eg em =
-      listed-cong (λ i. at xs i + byCutOff d c (draw % g) g m i) (λ i. at xs i + roundTwo d n draw left i) (length xs)
-      (λ i h. ap (at xs i +_) (ap₂ (λ g m. byCutOff d c (draw % g) g m i) eg em ∙ by-rank i (omega arith)))
+  pub service : (draw : ℕ) (xs : List ℕ) → length xs ≡ n → added xs (byCutOff d c (draw % g) g (left - l)) ≡ added xs (roundTwo d n draw left)
+  service draw xs e =
+      listed-cong (λ i. at xs i + byCutOff d c (draw % g) g (left - l) i) (λ i. at xs i + roundTwo d n draw left i) (length xs)
+      (λ i h. ap (at xs i +_) (ap₂ (λ g l. byCutOff d c (draw % g) g (left - l) i) (cut .tied-are) (cut .larger-are) ∙ by-rank draw i (omega arith)))

@@ -115,12 +115,12 @@ module _ (hs out : List ℕ) (I S p i passed : ℕ) (inc : Increment I S) (stand
       assigned-amounts hs out new (wheelMarks I (total hs) S p) l (rw marks-start at a) ∙ ap (amounts hs) (wheel-places I (total hs) S p) ∙ sym (wheel-part I hs S p less)
 
 -- the same, of the numbers that the code has
-module _ (hs out cleared : List ℕ) (I S p i passed T k b l : ℕ) (listed : Listed hs out) (inc : Increment I S) (stands : Stands hs 0 p i passed) (eT : T ≡ total hs) (less : S < total hs) (ec : cleared ≡ replicate (length out) 0) (eb : b ≡ blocks I S) (el : l ≡ S - I * (b - 1)) (ek : k ≡ interval I T b) where
-  pub turn-ready : Small hs cleared × Blocks hs cleared i passed k 0 b I l
-  turn-ready = rw (el, ek, eT, eb, ec) (small-zero hs out listed, blocks-start hs out I S p i passed inc stands listed less)
+module _ (hs out cleared : List ℕ) (I S p i passed T k r b l : ℕ) (listed : Listed hs out) (inc : Increment I S) (stands : Stands hs 0 p i passed) (eT : T ≡ total hs) (less : S < total hs) (ec : cleared ≡ replicate (length out) 0) (eb : b ≡ blocks I S) (el : l ≡ S - I * (b - 1)) (ek : k ≡ interval I T b) (er : r ≡ 0) where
+  pub turn-ready : Small hs cleared × Blocks hs cleared i passed k r b I l
+  turn-ready = rw (er, el, ek, eT, eb, ec) (small-zero hs out listed, blocks-start hs out I S p i passed inc stands listed less)
 
-  pub turn-done : (new : List ℕ) → Assigned hs cleared new (marksFrom hs i passed k 0 b I l) → new ≡ wheel I hs S p
-  turn-done new a = wheel-done hs out I S p i passed inc stands new (listed .lengths) less (rw (el, ek, eT, eb, ec) at a)
+  pub turn-done : (new : List ℕ) → Assigned hs cleared new (marksFrom hs i passed k r b I l) → new ≡ wheel I hs S p
+  turn-done new a = wheel-done hs out I S p i passed inc stands new (listed .lengths) less (rw (er, el, ek, eT, eb, ec) at a)
 
 pub used-whole : (I T S : ℕ) → S ≡ T → 0 ≡ blocksUsed I T S
 unfolding blocksUsed

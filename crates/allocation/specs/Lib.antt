@@ -1,3 +1,4 @@
+pub mod Millionths
 pub mod Stretch
 pub mod Turn
 pub mod Judged

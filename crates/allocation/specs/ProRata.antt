@@ -29,15 +29,17 @@ pub record Decimals (parts : List ℕ) (left : ℕ) : Type 0 where
   pub five : (i : ℕ) → i < length parts → at parts i < 100000
   pub most : left ≤ length parts
 
--- c is the decimal part at which what is left runs out: fewer positions than are left have a larger one, and at least as many have one as large or larger
-pub record CutOffAt (d : ℕ → ℕ) (n left c : ℕ) : Type 0 where
+-- c is the decimal part at which what is left runs out: fewer positions than are left have a larger one, and at least as many have one as large or larger; l positions have a larger one and g have c
+pub record CutOffAt (d : ℕ → ℕ) (n left c l g : ℕ) : Type 0 where
   pub five : c < 100000
   pub fewer : larger d c n < left
   pub enough : left ≤ larger d c n + equal d c n
+  pub larger-are : l ≡ larger d c n
+  pub tied-are : g ≡ equal d c n
 
 -- the cut-off's answer: none exactly where nothing is left
 abbrev pub CutOff : (ℕ → ℕ) → ℕ → ℕ → Cutoff → Type 0
-CutOff d n left (At c) = CutOffAt d n left c
+CutOff d n left (At c l g) = CutOffAt d n left c l g
 CutOff d n left Nothing = left ≡ 0
 
 -- what round two assigns to the position with decimal part x by the cut-off c: one contract if x is larger, and one if x is equal and its turn is among the first m of g

@@ -91,13 +91,13 @@ pub fn at_least(parts: &[u32], x: u32) -> u32
     count
 }
 
-// The decimal part at which what is left runs out.
+// The decimal part at which what is left runs out, and how many positions have a larger one and how many this one.
 pub enum Cutoff {
-    At(u32),
+    At { cut: u32, larger: u32, tied: u32 },
     Nothing,
 }
 
-// Bisects the decimal parts: at least `left` positions have `low` or more, and fewer have `low + width` or more.
+// Bisects the decimal parts: at least `left` positions have `low` or more, and fewer, `larger`, have `low + width` or more.
 pub fn cut_off(parts: &[u32], remainder: Contracts) -> Cutoff
     requires { ⌜ Decimals (now parts) (remainder .0) ⌝ }
     ensures { λ r. ⌜ CutOff (at (now (parts .entry))) (length (now (parts .entry))) (remainder .0) r ⌝ }
@@ -108,17 +108,25 @@ pub fn cut_off(parts: &[u32], remainder: Contracts) -> Cutoff
     }
     let mut low = 0u32;
     let mut width = 100_000u32;
+    let mut enough = parts.len() as u32;
+    let mut larger = 0u32;
     while 1 < width {
         let half = width / 2;
         let count = at_least(parts, low + half);
         if left <= count {
             low += half;
             width -= half;
+            enough = count;
         } else {
             width = half;
+            larger = count;
         }
     }
-    Cutoff::At(low)
+    Cutoff::At {
+        cut: low,
+        larger,
+        tied: enough - larger,
+    }
 }
 
 // Round two by the cut-off: `served` of the `tied` positions get a contract, beginning with number `first` + 1.
@@ -182,11 +190,9 @@ pub fn round_two(parts: &[u32], remainder: Contracts, draw: u32, amounts: &mut [
     requires { ⌜ Decimals (now parts) (remainder .0) × RoundOne (now parts) (now amounts) ⌝ }
     ensures { λ r. ⌜ now (amounts .exit) ≡ added (now (amounts .entry)) (roundTwo (at (now (parts .entry))) (length (now (parts .entry))) draw (remainder .0)) ⌝ }
 {
-    let Cutoff::At(cut) = cut_off(parts, remainder) else {
+    let Cutoff::At { cut, larger, tied } = cut_off(parts, remainder) else {
         return;
     };
-    let larger = at_least(parts, cut + 1);
-    let tied = at_least(parts, cut) - larger;
     let round = RoundTwo {
         cut,
         tied,

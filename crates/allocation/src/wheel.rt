@@ -9,10 +9,11 @@ use crate::places::skip_run;
 use series::Contracts;
 use series::Place;
 ghost use mathlib.Core.Path.{_≡_};
-ghost use Prim.Native.Nat.{_+_, _-_, _*_, _≤_};
+ghost use Prim.Native.Nat.{_+_, _-_, _*_, _≤_, _<_};
 ghost use Rattle.series.specs.Places.{total as totalOf, OnWheel};
-ghost use Rattle.series.specs.Wheel.{wheel, blocks as blocksOf, blocksUsed};
+ghost use Rattle.series.specs.Wheel.{ONE, wheel, blocks as blocksOf, blocksUsed};
 ghost use Rattle.allocation.specs.Stretch.{Listed, Small, OnList, Assigned, placeOf};
+ghost use Rattle.allocation.specs.Millionths.{millionths};
 ghost use Rattle.allocation.specs.Turn.{Increment, Ready, Skipped, Blocks, marksFrom};
 
 // Where the wheel stands, with its skip interval and the reserve.
@@ -25,9 +26,10 @@ pub struct Wheel {
 impl Wheel {
     // One skip: skip interval plus reserve, the whole part of it skipped, the decimals left over reserved.
     pub fn skip(mut self, shorts: &[u32]) -> Self
-        requires { ⌜ Ready (now shorts) (self .cursor .at) (self .cursor .passed .0) (self .interval .0) (self .reserve .0) ⌝ }
+        requires { ⌜ self .interval .decimals < ONE ⌝ }
+        requires { ⌜ Ready (now shorts) (self .cursor .at) (self .cursor .passed .0) (millionths (self .interval)) (millionths (self .reserve)) ⌝ }
         ensures { λ r. ⌜ r .interval ≡ self .interval ⌝ }
-        ensures { λ r. ⌜ Skipped (now (shorts .entry)) (self .cursor .at) (self .cursor .passed .0) (self .interval .0 + self .reserve .0) (r .cursor .at) (r .cursor .passed .0) (r .reserve .0) ⌝ }
+        ensures { λ r. ⌜ Skipped (now (shorts .entry)) (self .cursor .at) (self .cursor .passed .0) (millionths (self .interval) + millionths (self .reserve)) (r .cursor .at) (r .cursor .passed .0) (millionths (r .reserve)) ⌝ }
     {
         let interval = self.interval;
         let reserve = self.reserve;
@@ -48,9 +50,10 @@ fn turn(
     increment: Contracts,
     last: Contracts,
 )
+    requires { ⌜ start .interval .decimals < ONE ⌝ }
     requires { ⌜ Small (now shorts) (now amounts) ⌝ }
-    requires { ⌜ Blocks (now shorts) (now amounts) (start .cursor .at) (start .cursor .passed .0) (start .interval .0) (start .reserve .0) blocks (increment .0) (last .0) ⌝ }
-    ensures { λ _. ⌜ Assigned (now (shorts .entry)) (now (amounts .entry)) (now (amounts .exit)) (marksFrom (now (shorts .entry)) (start .cursor .at) (start .cursor .passed .0) (start .interval .0) (start .reserve .0) blocks (increment .0) (last .0)) ⌝ }
+    requires { ⌜ Blocks (now shorts) (now amounts) (start .cursor .at) (start .cursor .passed .0) (millionths (start .interval)) (millionths (start .reserve)) blocks (increment .0) (last .0) ⌝ }
+    ensures { λ _. ⌜ Assigned (now (shorts .entry)) (now (amounts .entry)) (now (amounts .exit)) (marksFrom (now (shorts .entry)) (start .cursor .at) (start .cursor .passed .0) (millionths (start .interval)) (millionths (start .reserve)) blocks (increment .0) (last .0)) ⌝ }
 {
     let mut wheel = start;
     let mut block = 1;
@@ -108,7 +111,7 @@ pub fn assign(
     let first = Wheel {
         cursor: seek(shorts, start),
         interval: Millionths::interval(total, blocks, increment),
-        reserve: Millionths(0),
+        reserve: Millionths::zero(),
     };
     turn(shorts, amounts, first, blocks, increment, last);
     blocks

@@ -3,22 +3,16 @@ use native.Mathlib.Omega.{arith}
 use Rattle.allocation.proofs.TurnLaws.{whole-blocks}
 use Rattle.allocation.proofs.wheel.last_block.Statement.{statement}
 use Rattle.allocation.proofs.wheel.last_block.Tie as tie
-use Rattle.allocation.proofs.wheel.last_block.Reads as reads
-use Rattle.allocation.proofs.wheel.last_block.Lts as lts
 
--- src/wheel.rt:81:44
 sub-t4 : tie.Need-sub-t4
 sub-t4 c = whole-blocks (c .args .increment .0) (c .args .exercised .0) (c .args .blocks) (c .pre .0) (c .pre .1) .0
 
--- src/wheel.rt:81:29
 mul-t5 : tie.Need-mul-t5
 mul-t5 c = omega (arith, whole-blocks (c .before .args .increment .0) (c .before .args .exercised .0) (c .before .args .blocks) (c .before .pre .0) (c .before .pre .1) .1, c .before .pre .0 .exercised-most)
 
--- src/wheel.rt:81:15
 sub-t6 : tie.Need-sub-t6
 sub-t6 c = omega (arith, whole-blocks (c .before .before .args .increment .0) (c .before .before .args .exercised .0) (c .before .before .args .blocks) (c .before .before .pre .0) (c .before .before .pre .1) .1)
 
--- src/wheel.rt:76:1
 returns : tie.Need-returns
 returns c = search needs
 

@@ -1,58 +1,68 @@
-use borrow.Author.Needs.{needs}
-use mathlib.Core.Path.{refl}
+use Prim.Native.Nat.{_+_, _*_}
 use native.Mathlib.Omega.{arith}
+use native.Mathlib.Nat.{div-le-self}
 use Rattle.series.specs.Wheel.{ONE, interval}
+use borrow.Author.Needs.{needs}
 use Rattle.allocation.proofs.millionths.Millionths.interval.Statement.{statement}
 use Rattle.allocation.proofs.millionths.Millionths.interval.Tie as tie
-use Rattle.allocation.proofs.millionths.Millionths.interval.Reads as reads
-use Rattle.allocation.proofs.millionths.Millionths.interval.Lts as lts
 
--- src/millionths.rt:19:27
+cast-one : tie.Need-cast-one
+cast-one c = search needs
+
 cast-mean : tie.Need-cast-mean
 cast-mean c = search needs
 
--- src/millionths.rt:19:26
 mul-mean : tie.Need-mul-mean
 mul-mean c = search needs
 
--- src/millionths.rt:19:21
 mul-mean-2 : tie.Need-mul-mean-2
 mul-mean-2 c = search needs
 
--- src/millionths.rt:19:21
 add-mean : tie.Need-add-mean
 add-mean c = search needs
 
--- src/millionths.rt:19:73
 mul-mean-3 : tie.Need-mul-mean-3
 mul-mean-3 c = search needs
 
--- src/millionths.rt:19:20
 div-mean : tie.Need-div-mean
 div-mean c = search needs
 
--- src/millionths.rt:20:22
 cast-block : tie.Need-cast-block
 cast-block c = search needs
 
--- src/millionths.rt:20:21
 mul-block : tie.Need-mul-block
 mul-block c = search needs
 
--- src/millionths.rt:22:13
+zero-requires : tie.Need-zero-requires
+zero-requires c κs = search needs
+
 returns : tie.Need-returns
 unfolding interval
 returns c = omega arith
 
--- src/millionths.rt:14:5
+div-t13 : tie.Need-div-t13
+div-t13 c = search needs
+
+cast-t15 : tie.Need-cast-t15
+cast-t15 c =
+    let a = c .before .before .before .args in
+    omega (arith, div-le-self (2 * (a .total .0 * ONE) + a .blocks) (2 * a .blocks))
+
+rem-t10 : tie.Need-rem-t10
+rem-t10 c = search needs
+
+cast-t16 : tie.Need-cast-t16
+cast-t16 c = search needs
+
 returns-2 : tie.Need-returns-2
 unfolding interval
-returns-2 c = refl
+returns-2 c = omega arith
 
 pub interval-spec : {M : Type 1} → statement M
 interval-spec =
     tie.close
     (tie.spec
+    cast-one
     cast-mean
     mul-mean
     mul-mean-2
@@ -61,5 +71,10 @@ interval-spec =
     div-mean
     cast-block
     mul-block
+    zero-requires
     returns
+    div-t13
+    cast-t15
+    rem-t10
+    cast-t16
     returns-2)
