@@ -36,11 +36,11 @@ impl Percentage {
     }
 
     // The products stay below 2^64: shorts * high is at most 10^16.
-    pub fn assignment(self, shorts: u32) -> Assignment
-        requires { ⌜ (shorts ≤ 10000000) × (self .high ≤ 1000000000) × (self .low < 100000000) ⌝ }
-        ensures { λ r. ⌜ (r .whole ≡ wholePart (self .high * 100000000 + self .low) shorts) × (r .decimal ≡ decimalPart (self .high * 100000000 + self .low) shorts) ⌝ }
+    pub fn assignment(self, shorts: Contracts) -> Assignment
+        requires { ⌜ (shorts .0 ≤ 10000000) × (self .high ≤ 1000000000) × (self .low < 100000000) ⌝ }
+        ensures { λ r. ⌜ (r .whole ≡ wholePart (self .high * 100000000 + self .low) (shorts .0)) × (r .decimal ≡ decimalPart (self .high * 100000000 + self .low) (shorts .0)) ⌝ }
     {
-        let h = shorts as u64;
+        let h = shorts.0 as u64;
         let amount = (h * self.high + h * self.low / 100_000_000) / 10_000;
         Assignment {
             whole: (amount / 100_000) as u32,
@@ -66,7 +66,7 @@ pub fn round_one(
     let mut sum = 0u32;
     let mut i = 0;
     while i < shorts.len() {
-        let own = percentage.assignment(shorts[i]);
+        let own = percentage.assignment(Contracts(shorts[i]));
         amounts[i] = own.whole;
         parts[i] = own.decimal;
         sum += own.whole;

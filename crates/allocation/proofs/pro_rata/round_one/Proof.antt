@@ -40,11 +40,11 @@ loop-holds : tie.Need-loop-holds Inv-loop μ-loop
 unfolding sumBelow
 loop-holds c = (omega arith, fill-none _ _, fill-none _ _, refl)
 
-mul-assignment : tie.Need-mul-assignment Inv-loop μ-loop
-mul-assignment c = search needs
+mul-t10 : tie.Need-mul-t10 Inv-loop μ-loop
+mul-t10 c = search needs
 
-shared-slice-read-assignment : tie.Need-shared-slice-read-assignment Inv-loop μ-loop
-shared-slice-read-assignment c = omega arith
+shared-slice-read-t13 : tie.Need-shared-slice-read-t13 Inv-loop μ-loop
+shared-slice-read-t13 c = omega arith
 
 assignment-requires : tie.Need-assignment-requires Inv-loop μ-loop
 assignment-requires c κs = let start = c .before .before .before .before .before .before .before in
@@ -107,8 +107,8 @@ round-one-spec =
     μ-loop
     of-requires
     loop-holds
-    mul-assignment
-    shared-slice-read-assignment
+    mul-t10
+    shared-slice-read-t13
     assignment-requires
     mul-amounts
     slice-write-amounts
