@@ -1,4 +1,4 @@
-// Times of the library against plain Rust; the median of many runs.
+// Times of the library against plain Rust; the median of many samples.
 
 use std::hint::black_box;
 use std::process::Stdio;
@@ -10,24 +10,35 @@ use compare::program::{self, TextFile};
 use compare::random::Random;
 use dilbreth::calls;
 
-// Nanoseconds of one call: the median of samples that each last long enough to be measured.
-fn median(mut call: impl FnMut()) -> f64 {
+// Nanoseconds of one call of each: the median of samples that each last long enough to be measured. The samples are taken in turn, so that a
+// burst of other work on the machine weighs on each alike.
+fn medians<const N: usize>(mut calls: [&mut dyn FnMut(); N]) -> [f64; N] {
+    let inner = std::array::from_fn::<u32, N, _>(|i| {
+        let begin = Instant::now();
+        calls[i]();
+        let once = begin.elapsed().max(Duration::from_nanos(20));
+        (Duration::from_micros(100).as_nanos() / once.as_nanos()).clamp(1, 5_000) as u32
+    });
+    let budget = Duration::from_millis(250) * N as u32;
+    let mut samples: [Vec<f64>; N] = std::array::from_fn(|_| Vec::new());
     let begin = Instant::now();
-    call();
-    let once = begin.elapsed().max(Duration::from_nanos(20));
-    let inner = (Duration::from_micros(100).as_nanos() / once.as_nanos()).clamp(1, 5_000) as u32;
-    let budget = Duration::from_millis(250);
-    let mut samples = Vec::new();
-    let begin = Instant::now();
-    while samples.len() < 5 || (begin.elapsed() < budget && samples.len() < 501) {
-        let start = Instant::now();
-        for _ in 0..inner {
-            call();
+    while samples[0].len() < 5 || (begin.elapsed() < budget && samples[0].len() < 501) {
+        for i in 0..N {
+            let start = Instant::now();
+            for _ in 0..inner[i] {
+                calls[i]();
+            }
+            samples[i].push(start.elapsed().as_nanos() as f64 / f64::from(inner[i]));
         }
-        samples.push(start.elapsed().as_nanos() as f64 / f64::from(inner));
     }
-    samples.sort_by(f64::total_cmp);
-    samples[samples.len() / 2]
+    samples.map(|mut of_one| {
+        of_one.sort_by(f64::total_cmp);
+        of_one[of_one.len() / 2]
+    })
+}
+
+fn median(mut call: impl FnMut()) -> f64 {
+    medians([&mut call])[0]
 }
 
 fn time(nanoseconds: f64) -> String {
@@ -59,6 +70,18 @@ fn list(positions: usize, total: u64) -> Series {
     Series { accounts: make::upward(positions), shorts }
 }
 
+type Plain = fn(&[u32], &[u32], u32, u32, &mut [u32]) -> Result<(u32, u32), u32>;
+
+fn by_method<const METHOD: u8>(
+    accounts: &[u32],
+    shorts: &[u32],
+    exercised: u32,
+    draw: u32,
+    amounts: &mut [u32],
+) -> Result<(u32, u32), u32> {
+    plain::allocate(METHOD, accounts, shorts, exercised, draw, amounts)
+}
+
 fn allocation(row: Row) {
     let list = list(row.positions, row.total);
     assert_eq!(list.total(), row.total);
@@ -69,47 +92,34 @@ fn allocation(row: Row) {
         let answer = reference::allocate(method, black_box(accounts), shorts, exercised, draw, shorts.len());
         black_box(answer.expect("an allocation"));
     });
-    let mut amounts = vec![0u32; row.positions];
+    let mut amounts = [vec![0u32; row.positions], vec![0u32; row.positions], vec![0u32; row.positions]];
     for cleared in [false, true] {
-        let library = median(|| {
+        let [ours, theirs, others] = &mut amounts;
+        let mut call_library = || {
             if cleared {
-                black_box(&mut amounts).fill(0);
+                black_box(&mut *ours).fill(0);
             }
             let (mut total, mut further) = (0, 0);
-            let number = calls::allocate(
-                method,
-                black_box(accounts),
-                shorts,
-                exercised,
-                draw,
-                &mut amounts,
-                &mut total,
-                &mut further,
-            );
+            let number =
+                calls::allocate(method, black_box(accounts), shorts, exercised, draw, ours, &mut total, &mut further);
             assert_eq!(black_box((number, total)).0, 0);
-            black_box(&amounts);
-        });
-        let best = median(|| {
+            black_box(&ours);
+        };
+        let call_plain = |allocate: Plain, amounts: &mut Vec<u32>| {
             if cleared {
-                black_box(&mut amounts).fill(0);
+                black_box(&mut *amounts).fill(0);
             }
-            let answer = plain::allocate(method, black_box(accounts), shorts, exercised, draw, &mut amounts);
+            let answer = allocate(black_box(accounts), shorts, exercised, draw, amounts);
             black_box(answer.expect("an allocation"));
             black_box(&amounts);
-        });
-        let division = if method == b'W' {
-            time(median(|| {
-                if cleared {
-                    black_box(&mut amounts).fill(0);
-                }
-                let answer =
-                    plain::allocate_wheel_by_division(black_box(accounts), shorts, exercised, draw, &mut amounts);
-                black_box(answer.expect("an allocation"));
-                black_box(&amounts);
-            }))
-        } else {
-            "-".to_string()
         };
+        let (same, other): (Plain, Option<Plain>) = match method {
+            b'W' => (by_method::<b'W'>, Some(plain::allocate_wheel_by_division)),
+            b'P' => (plain::allocate_pro_rata_by_bisection, Some(by_method::<b'P'>)),
+            _ => (by_method::<b'L'>, None),
+        };
+        let [library, same] = medians([&mut call_library, &mut || call_plain(same, theirs)]);
+        let other = other.map_or("-".to_string(), |other| time(median(|| call_plain(other, others))));
         println!(
             "{:<7}{:>10}{:>11}{:>11}{:>9}{:>12}{:>12}{:>12}{:>12}{:>12.4}{:>12.2}",
             char::from(method),
@@ -119,19 +129,22 @@ fn allocation(row: Row) {
             if cleared { "yes" } else { "no" },
             time(library),
             time(step),
-            division,
-            time(best),
+            other,
+            time(same),
             library / step,
-            library / best
+            library / same
         );
     }
 }
 
 fn allocations() {
-    println!("Allocating: one call. 'stepping' is one contract at a time; 'plain' is the best plain Rust of the same");
     println!(
-        "kind (blocks and positions, cut-off, positions); 'division' is plain Rust with a division for each position."
+        "Allocating: one call. 'stepping' is one contract at a time; 'plain' is the library's algorithm in plain Rust"
     );
+    println!(
+        "(blocks and positions, bisection, positions); 'best plain' is another one, where we know a faster: W with a"
+    );
+    println!("division for each position, P with a rank by selection or histograms.");
     println!(
         "Cleared: the output was filled with 0 before each call, within the time; else it holds the last amounts."
     );
@@ -144,7 +157,7 @@ fn allocations() {
         "cleared",
         "library",
         "stepping",
-        "division",
+        "best plain",
         "plain",
         "to stepping",
         "to plain"
@@ -188,17 +201,19 @@ fn texts() {
         let shorts: Vec<u32> = (0..positions).map(|_| random.spread(9_000) as u32).collect();
         let text = reference::write(b'W', 500, 77, &accounts, &shorts, usize::MAX).expect("a text");
         let (mut a, mut s) = (vec![0; positions], vec![0; positions]);
-        let library = median(|| {
+        let (mut a2, mut s2) = (a.clone(), s.clone());
+        let mut call_library = || {
             let (mut method, mut exercised, mut draw, mut found) = (0, 0, 0, 0);
             let number =
                 calls::read(black_box(&text), &mut a, &mut s, &mut method, &mut exercised, &mut draw, &mut found);
             assert_eq!(black_box((number, found)), (0, positions));
             black_box((&a, &s));
-        });
-        let best = median(|| {
-            black_box(plain::read(black_box(&text), &mut a, &mut s).expect("a series"));
-            black_box((&a, &s));
-        });
+        };
+        let mut call_plain = || {
+            black_box(plain::read(black_box(&text), &mut a2, &mut s2).expect("a series"));
+            black_box((&a2, &s2));
+        };
+        let [library, best] = medians([&mut call_library, &mut call_plain]);
         let show = |call: &str, bytes: usize, library: f64, best: f64| {
             println!(
                 "{:<9}{:>10}{:>9}{:>12}{:>12}{:>12}{:>12}{:>12.2}",
@@ -213,17 +228,18 @@ fn texts() {
             );
         };
         show("read", text.len(), library, best);
-        let mut out = vec![0; text.len()];
-        let library = median(|| {
+        let (mut out, mut out2) = (vec![0; text.len()], vec![0; text.len()]);
+        let mut call_library = || {
             let mut written = 0;
             let number = calls::write(b'W', 500, 77, black_box(&accounts), &shorts, &mut out, &mut written);
             assert_eq!(black_box((number, written)), (0, text.len()));
             black_box(&out);
-        });
-        let best = median(|| {
-            black_box(plain::write(b'W', 500, 77, black_box(&accounts), &shorts, &mut out).expect("a text"));
-            black_box(&out);
-        });
+        };
+        let mut call_plain = || {
+            black_box(plain::write(b'W', 500, 77, black_box(&accounts), &shorts, &mut out2).expect("a text"));
+            black_box(&out2);
+        };
+        let [library, best] = medians([&mut call_library, &mut call_plain]);
         show("write", text.len(), library, best);
         let mut printed = vec![0; 32_768];
         let library = median(|| {

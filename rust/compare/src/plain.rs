@@ -1,4 +1,4 @@
-//! The fastest plain Rust we know for the same answers: what the benchmarks measure against.
+//! Plain Rust for the same answers: what the benchmarks measure against.
 
 const ONE: u64 = 1_000_000;
 
@@ -85,6 +85,20 @@ pub fn allocate_wheel_by_division(
     let total = judge(b'W', accounts, shorts, exercised, draw, amounts.len())?;
     let amounts = &mut amounts[..shorts.len()];
     Ok((total, wheel_by_division(shorts, total, exercised, draw, amounts)))
+}
+
+/// As `allocate` for pro rata, with the cut-off found as the library finds it: by bisection, a count over the decimal
+/// parts for each step.
+pub fn allocate_pro_rata_by_bisection(
+    accounts: &[u32],
+    shorts: &[u32],
+    exercised: u32,
+    draw: u32,
+    amounts: &mut [u32],
+) -> Result<(u32, u32), u32> {
+    let total = judge(b'P', accounts, shorts, exercised, draw, amounts.len())?;
+    let amounts = &mut amounts[..shorts.len()];
+    Ok((total, pro_rata_by_bisection(shorts, total, exercised, draw, amounts)))
 }
 
 fn interval(total: u32, blocks: u32) -> u64 {
@@ -247,6 +261,51 @@ fn cut_off(decimals: &[u32], remaining: u32) -> (u32, u32, u32) {
         low -= 1;
     }
     (((top << 9) + low) as u32, u32::from(fine[low]), left)
+}
+
+/// A short list has a short room for its decimal parts.
+fn pro_rata_by_bisection(shorts: &[u32], total: u32, exercised: u32, draw: u32, amounts: &mut [u32]) -> u32 {
+    let count = shorts.len();
+    if count <= 128 {
+        let mut decimals = [0; 128];
+        both_rounds(shorts, total, exercised, draw, amounts, &mut decimals[..count])
+    } else {
+        let mut decimals = [0; 4_096];
+        both_rounds(shorts, total, exercised, draw, amounts, &mut decimals[..count])
+    }
+}
+
+fn both_rounds(
+    shorts: &[u32],
+    total: u32,
+    exercised: u32,
+    draw: u32,
+    amounts: &mut [u32],
+    decimals: &mut [u32],
+) -> u32 {
+    let remaining = round_one(shorts, total, exercised, amounts, decimals);
+    if remaining > 0 {
+        let (last, equal, left) = cut_off_by_bisection(decimals, remaining);
+        round_two(amounts, decimals, last, equal, left, draw);
+    }
+    remaining
+}
+
+/// The same as `cut_off`: at least `remaining` positions have `low` or more, and fewer have `low + width` or more.
+fn cut_off_by_bisection(decimals: &[u32], remaining: u32) -> (u32, u32, u32) {
+    let (mut low, mut width) = (0, 100_000);
+    let (mut enough, mut larger) = (decimals.len() as u32, 0);
+    while width > 1 {
+        let half = width / 2;
+        let middle = low + half;
+        let count = decimals.iter().map(|&decimal| u32::from(decimal >= middle)).sum();
+        if count >= remaining {
+            (low, width, enough) = (middle, width - half, count);
+        } else {
+            (width, larger) = (half, count);
+        }
+    }
+    (low, enough - larger, remaining - larger)
 }
 
 fn round_two(amounts: &mut [u32], decimals: &[u32], last: u32, equal: u32, served: u32, draw: u32) {

@@ -30,6 +30,13 @@ fn plain_allocation() {
             let found = found.map(|(total, further)| reference::Allocation { amounts, total, further });
             assert_eq!(found, expected, "by division: {shown}");
         }
+        if method == b'P' {
+            let mut amounts = vec![77; room];
+            let found =
+                plain::allocate_pro_rata_by_bisection(&list.accounts, &list.shorts, exercised, draw, &mut amounts);
+            let found = found.map(|(total, further)| reference::Allocation { amounts, total, further });
+            assert_eq!(found, expected, "by bisection: {shown}");
+        }
     }
 }
 
