@@ -1,6 +1,6 @@
 -- What the program prints for a text: the amounts of an allocation, or the number of a refusal.
 use Prim.Native.Nat.{ℕ}
-use mathlib.Core.List.{List, _++_, map}
+use mathlib.Core.List.{List, map}
 use lib.Dec.{ltb}
 use lib.ListN.{length}
 use Rattle.series.specs.Refusals.{Verdict, accepted, refused, verdict}
@@ -8,16 +8,22 @@ use Rattle.series.specs.Call.{assigned}
 use Rattle.series_text.specs.Ascii.{ascii}
 use Rattle.series_text.specs.Results.{Result, value, refuse}
 use Rattle.series_text.specs.Results as Results
-use Rattle.series_text.specs.Text.{Text, Series, NEWLINE, readText, writeNumber, writePositions}
+use Rattle.series_text.specs.Text.{Text, Series, readText}
 use Rattle.series_text.specs.Calls.{positionsOf}
+use Rattle.series_text.specs.Tables.{tableText, noteText}
+use Rattle.series.specs.declared.Method.{Method}
 
 -- for a refusal the line `refused` and a line with the number
 unfoldable pub refusedLines : ℕ → Text
-refusedLines n = ascii "refused\n" ++ writeNumber n NEWLINE
+refusedLines n = noteText (ascii "refused\n") n
 
 -- for an allocation the line `account,assigned`, then one line for each position in list order, zero amounts too
 unfoldable pub assignedLines : List ℕ → List ℕ → Text
-assignedLines accounts amounts = ascii "account,assigned\n" ++ writePositions (positionsOf accounts amounts)
+assignedLines accounts amounts = tableText (ascii "account,assigned\n") accounts amounts
+
+-- the series of two lists
+unfoldable pub seriesOf : Method → ℕ → ℕ → List ℕ → List ℕ → Series
+seriesOf m S draw accounts shorts = record { terms = record { method = m; exercised = S; draw = draw }; positions = positionsOf accounts shorts }
 
 -- the accounts of a series
 unfoldable pub accountsOf : Series → List ℕ
@@ -58,6 +64,10 @@ readingVerdict (value t) = seriesVerdict t
 unfoldable pub textVerdict : Text → Verdict
 textVerdict s = readingVerdict (readText s)
 
--- printing to an output of length room: 4 where it is shorter than what is printed
+-- writing the text s to an output of length room: 4 where it is shorter
+unfoldable pub textInto : Text → ℕ → Result Text
+textInto s room = refuse (ltb room (length s)) 4 s
+
+-- printing to an output of length room what is printed for the text s
 unfoldable pub printInto : Text → ℕ → Result Text
-printInto s room = refuse (ltb room (length (printed s))) 4 (printed s)
+printInto s room = textInto (printed s) room

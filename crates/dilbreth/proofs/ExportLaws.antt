@@ -29,7 +29,7 @@ module _ (letter : ℕ) (accounts shorts : List ℕ) (S draw : ℕ) (old : List 
   unfolding called calledOutput outcomeBy outputBy
   letter-known m o out e eo ev = rw (← e, eo) (refl, (ev, (refl, refl)))
 
-length-status : (r : Result Text) → status (lengthOf r) ≡ status r
+pub length-status : (r : Result Text) → status (lengthOf r) ≡ status r
 unfolding lengthOf
 length-status (refused n) = refl
 length-status (value s) = refl

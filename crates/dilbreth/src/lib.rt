@@ -1,4 +1,5 @@
 // The calls of the library for C and Rust, over numbers and slices. Each answers 0, or the number of a refusal of document 01, and then nothing behind its arguments has changed.
+use assignment_text::Response;
 use series::Answer;
 use series::Contracts;
 use series_text::Named;
@@ -7,6 +8,7 @@ use series_text::Writing;
 ghost use mathlib.Core.Path.{_≡_};
 ghost use lib.ListN.{length};
 ghost use Rattle.series_text.specs.Calls.{readInto, handed, accountsAfter, shortsAfter, lengthOf, textAfter};
+ghost use Rattle.assignment_text.specs.Printed.{printInto};
 ghost use Rattle.dilbreth.specs.Allocating.{called, calledOutput, statusOf, totalAfter, furtherAfter};
 ghost use Rattle.dilbreth.specs.Texts.{status, numberAfter, letterAfter, exercisedAfter, drawAfter, positionsAfter, written as writtenOf};
 
@@ -111,5 +113,25 @@ pub extern "C" fn dilbreth_write(
             0
         }
         Writing::Refused(refusal) => series::number(refusal),
+    }
+}
+
+// Writes what the program prints for a text: the amounts, or the refusal of the text, which is no refusal of this call.
+#[no_mangle]
+pub extern "C" fn dilbreth_respond(text: &[u8], output: &mut [u8], written: &mut usize) -> u32
+    ensures { λ r. ⌜ r ≡ status (printInto (now (text .entry)) (length (now (output .entry)))) ⌝ }
+    ensures { λ _. ⌜ now (output .exit) ≡ textAfter (printInto (now (text .entry)) (length (now (output .entry)))) (now (output .entry)) ⌝ }
+    ensures { λ _. ⌜ now (written .exit) ≡ numberAfter (lengthOf (printInto (now (text .entry)) (length (now (output .entry))))) (now (written .entry)) ⌝ }
+{
+    match assignment_text::respond(text, output) {
+        Response::Assigned(n) => {
+            *written = n;
+            0
+        }
+        Response::Refused(n, _) => {
+            *written = n;
+            0
+        }
+        Response::TooShort => 4,
     }
 }

@@ -9,4 +9,5 @@ pub mod DecimalLaws
 pub mod PositionLaws
 pub mod PutLaws
 pub mod CallLaws
+pub mod TableLaws
 pub mod NumberLaws

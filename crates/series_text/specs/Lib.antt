@@ -4,4 +4,5 @@ pub mod Results
 pub mod Numbers
 pub mod Text
 pub mod Calls
+pub mod Tables
 pub mod Parts

@@ -12,6 +12,7 @@ ghost use lib.ListN.{length, take, drop};
 ghost use Rattle.series_text.specs.Text.{letter, methodBy};
 ghost use Rattle.series_text.specs.Parts.{namedMeans};
 ghost use Rattle.series_text.specs.Calls.{readingOf, readInto, handed, accountsAfter, shortsAfter, writingOf, writeInto, lengthOf, textAfter};
+ghost use Rattle.series_text.specs.Tables.{tableInto, noteInto};
 use lines::Rows;
 use lines::TermsLine;
 use names::POSITION_NAMES;
@@ -151,4 +152,36 @@ pub fn write(
     let line3 = put::put_terms(text, line2, method, exercised, draw);
     let lines = put::put_line(text, line3, &POSITION_NAMES);
     Writing::Written(put::put_positions(text, lines, accounts, shorts))
+}
+
+// Writes a table: a names line as given, and a line for each position. A refusal writes nothing, and bytes past the table are kept.
+pub fn write_table(names: &[u8], accounts: &[u32], counts: &[u32], text: &mut [u8]) -> Writing
+    ensures { λ r. ⌜ writingOf r ≡ lengthOf (tableInto (now (names .entry)) (now (accounts .entry)) (now (counts .entry)) (length (now (text .entry)))) ⌝ }
+    ensures { λ _. ⌜ now (text .exit) ≡ textAfter (tableInto (now (names .entry)) (now (accounts .entry)) (now (counts .entry)) (length (now (text .entry)))) (now (text .entry)) ⌝ }
+{
+    if accounts.len() != counts.len() {
+        return Writing::Refused(Refusal::LengthsDiffer);
+    }
+    if accounts.len() > 1024 {
+        return Writing::Refused(Refusal::TooManyLines);
+    }
+    let lines = put::positions_length(accounts, counts);
+    if text.len() < names.len() + lines {
+        return Writing::Refused(Refusal::OutputTooShort);
+    }
+    let at = put::put_line(text, 0, names);
+    Writing::Written(put::put_positions(text, at, accounts, counts))
+}
+
+// Writes a note: a line as given, and a line with the number. A refusal writes nothing, and bytes past the note are kept.
+pub fn write_note(names: &[u8], number: u32, text: &mut [u8]) -> Writing
+    ensures { λ r. ⌜ writingOf r ≡ lengthOf (noteInto (now (names .entry)) number (length (now (text .entry)))) ⌝ }
+    ensures { λ _. ⌜ now (text .exit) ≡ textAfter (noteInto (now (names .entry)) number (length (now (text .entry)))) (now (text .entry)) ⌝ }
+{
+    let digits = put::digits_of(number);
+    if text.len() < names.len() + digits + 1 {
+        return Writing::Refused(Refusal::OutputTooShort);
+    }
+    let at = put::put_line(text, 0, names);
+    Writing::Written(put::put_number(text, at, number, b'\n'))
 }

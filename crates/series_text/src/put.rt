@@ -11,7 +11,7 @@ use series::Contracts;
 use series::Method;
 
 // How many digits a number has.
-fn digits_of(n: u32) -> usize
+pub fn digits_of(n: u32) -> usize
     ensures { λ r. ⌜ r ≡ length (decimal n) ⌝ }
 {
     if n < 10 {
@@ -79,7 +79,7 @@ pub fn put_line(text: &mut [u8], at: usize, line: &[u8]) -> usize
 }
 
 // Puts a number, from its last digit to its first, and the byte that ends its field.
-fn put_number(text: &mut [u8], at: usize, n: u32, end: u8) -> usize
+pub fn put_number(text: &mut [u8], at: usize, n: u32, end: u8) -> usize
     requires { ⌜ at + length (writeNumber n end) ≤ length (now text) ⌝ }
     ensures { λ r. ⌜ Put (writeNumber n end) (now (text .entry)) at (now (text .exit)) r ⌝ }
 {

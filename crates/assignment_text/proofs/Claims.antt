@@ -1,0 +1,47 @@
+-- Document 01's case M in full, and what is printed for refusals, proved of the definitions by computation.
+use Prim.Native.Nat.{ℕ, suc}
+use Prim.Native.String.{String}
+use mathlib.Core.Path.{_≡_, refl}
+use mathlib.Core.List.{List, [], _∷_, map}
+use Rattle.series.specs.Sums.{bit, listed}
+use Rattle.series.specs.Places.{total, next, run, within, marked, before, last, amounts}
+use Rattle.series.specs.Lottery.{startingPlace, lottery}
+use Rattle.series.specs.Refusals.{first, lengthRows, positionRows, exercisedRows, outside, drawRows, rows, verdict}
+use Rattle.series.specs.Call.{assigned}
+use Rattle.series_text.specs.Ascii.{ascii}
+use Rattle.series_text.specs.Numbers.{digit, digits, spelled, amountFrom, amount, numeral, number, decimalIn, decimal}
+use Rattle.series_text.specs.Text.{Text, termsNames, positionNames, after, ends, field, past, fieldBy, numberBy, letter, methodBy, method, readTerms, readPosition, readPositions, readHead, readText, writeNumber, writePosition, writePositions}
+use Rattle.series_text.specs.Calls.{positionsOf}
+use Rattle.series_text.specs.Tables.{tableText, noteText}
+use Rattle.assignment_text.specs.Printed.{refusedLines, assignedLines, accountsOf, shortsOf, verdictLines, seriesVerdict, seriesLines, readingLines, printed}
+
+-- a text, and what is printed for it
+pub record Case : Type 0 where
+  pub input : Text
+  pub output : Text
+
+abbrev prints : String → String → Case
+prints s t = record { input = ascii s; output = ascii t }
+
+pub cases : List Case
+cases =
+    -- case M
+    prints "method,exercised,draw\nL,13,4855\naccount,short\n1,5\n2,8\n3,2\n4,10\n5,11\n" "account,assigned\n1,0\n2,0\n3,0\n4,8\n5,5\n" ∷
+    -- a refused text: nothing at all, an unknown method, the last line without byte 10
+    prints "" "refused\n12\n" ∷
+    prints "method,exercised,draw\nX,13,4855\naccount,short\n1,5\n" "refused\n14\n" ∷
+    prints "method,exercised,draw\nL,13,4855\naccount,short\n1,5\n2,8" "refused\n13\n" ∷
+    -- a refused series: no positions, accounts that fall, S above T, draw 0
+    prints "method,exercised,draw\nL,13,4855\naccount,short\n" "refused\n3\n" ∷
+    prints "method,exercised,draw\nL,13,4855\naccount,short\n2,8\n1,5\n" "refused\n5\n" ∷
+    prints "method,exercised,draw\nL,14,4855\naccount,short\n1,5\n2,8\n" "refused\n9\n" ∷
+    prints "method,exercised,draw\nL,13,0\naccount,short\n1,5\n2,8\n" "refused\n10\n" ∷ []
+
+-- the line `unfolding` names every definition that printing computes with
+printing : Text → Text
+unfolding bit listed total next run within marked before last amounts startingPlace lottery first lengthRows positionRows exercisedRows outside drawRows rows verdict assigned digit digits spelled amountFrom amount numeral number decimalIn decimal termsNames positionNames after ends field past fieldBy numberBy letter methodBy method readTerms readPosition readPositions readHead readText writeNumber writePosition writePositions positionsOf tableText noteText refusedLines assignedLines accountsOf shortsOf verdictLines seriesVerdict seriesLines readingLines printed ascii
+printing s = printed s
+
+pub known : map (λ c. printed (c .input)) cases ≡ map (λ c. c .output) cases
+unfolding cases printing
+known = refl

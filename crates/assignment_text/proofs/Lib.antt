@@ -1,0 +1,4 @@
+-- Claims and laws of what is printed for a text.
+pub mod Claims
+pub mod ReadingLaws
+pub mod PrintLaws

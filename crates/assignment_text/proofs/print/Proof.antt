@@ -1,0 +1,61 @@
+-- `print` meets its contract: the table that is written is what is printed for the allocation. Assumes nothing.
+use mathlib.Core.Path.{_≡_, refl}
+use lib.ListN.{length}
+use Rattle.series.specs.Refusals.{accepted}
+use Rattle.series_text.specs.Ascii.{ascii}
+use Rattle.series_text.specs.Calls.{writingOf, lengthOf, textAfter}
+use Rattle.assignment_text.specs.Printed.{assignedLines, textInto}
+use Rattle.assignment_text.specs.declared.Response.the-variants.{Assigned}
+use Rattle.assignment_text.proofs.PrintLaws.{table-is, print-short, print-all}
+use borrow.Author.Needs.{needs}
+use Rattle.assignment_text.proofs.print.Statement.{statement}
+use Rattle.assignment_text.proofs.print.Tie as tie
+
+-- the table is written
+hands : (c : tie.After-write-table) → writingOf (c .write-table .result) ≡ lengthOf (textInto (assignedLines (c .before .before .before .before .before .before .args .accounts .now) (c .before .before .before .before .before .before .args .amounts .now)) (length (c .before .before .before .before .before .before .args .output .now)))
+unfolding ascii
+hands c = rw (table-is _ _ _ (c .before .before .before .before .before .before .pre .0) (c .before .before .before .before .before .before .pre .1)) at (c .write-table .ensures .0)
+
+out : (c : tie.After-write-table) → c .write-table .last .1 .1 .1 .0 ≡ textAfter (textInto (assignedLines (c .before .before .before .before .before .before .args .accounts .now) (c .before .before .before .before .before .before .args .amounts .now)) (length (c .before .before .before .before .before .before .args .output .now))) (c .before .before .before .before .before .before .args .output .now)
+unfolding ascii
+out c = rw (table-is _ _ _ (c .before .before .before .before .before .before .pre .0) (c .before .before .before .before .before .before .pre .1)) at (c .write-table .ensures .1)
+
+slice-aggregate-write-table : tie.Need-slice-aggregate-write-table
+slice-aggregate-write-table c = search needs
+
+write-table-requires : tie.Need-write-table-requires
+write-table-requires c κs = search needs
+
+enum-known-n : tie.Need-enum-known-n
+enum-known-n c = search needs
+
+enum-told : tie.Need-enum-told
+enum-told c = search needs
+
+same-length : tie.Need-same-length
+same-length c = search needs
+
+returns : tie.Need-returns
+returns c = let a = c .before .before .before .before .before .before .before .before .before .before .before .args in
+    print-all accepted (assignedLines (a .accounts .now) (a .amounts .now)) (a .output .now) _ (c .before .before .before .before .before .write-table .result) (hands (c .before .before .before .before .before)) (out (c .before .before .before .before .before))
+    (Assigned (c .before .n .given .0 .0)) (c .before .n .given .0 .0) (c .before .n .given .1) refl refl
+
+same-length-2 : tie.Need-same-length-2
+same-length-2 c = search needs
+
+returns-2 : tie.Need-returns-2
+returns-2 c = let a = c .before .before .before .before .before .before .before .before .before .before .args in
+    print-short accepted (assignedLines (a .accounts .now) (a .amounts .now)) (a .output .now) _ (c .before .before .before .before .write-table .result) (hands (c .before .before .before .before)) (out (c .before .before .before .before)) _ (c .enum-told .given .1)
+
+pub print-spec : {M : Type 1} → statement M
+print-spec =
+    tie.close
+    (tie.spec
+    slice-aggregate-write-table
+    write-table-requires
+    enum-known-n
+    enum-told
+    same-length
+    returns
+    same-length-2
+    returns-2)

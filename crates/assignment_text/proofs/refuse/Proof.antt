@@ -1,0 +1,67 @@
+-- `refuse` meets its contract: the note that is written is what is printed for the refusal. Assumes nothing.
+use mathlib.Core.Path.{_≡_, refl, ap, _∙_}
+use lib.ListN.{length}
+use Rattle.series.specs.Answers.{numberOf}
+use Rattle.series.specs.Refusals.{refused}
+use Rattle.series_text.specs.Ascii.{ascii}
+use Rattle.series_text.specs.Calls.{writingOf, lengthOf, textAfter}
+use Rattle.series_text.specs.Tables.{noteInto}
+use Rattle.assignment_text.specs.Printed.{refusedLines, textInto}
+use Rattle.assignment_text.specs.declared.Response.the-variants.{Refused}
+use Rattle.assignment_text.proofs.PrintLaws.{note-is, print-short, print-all}
+use borrow.Author.Needs.{needs}
+use Rattle.assignment_text.proofs.refuse.Statement.{statement}
+use Rattle.assignment_text.proofs.refuse.Tie as tie
+
+-- the note is written
+hands : (c : tie.After-write-note) → writingOf (c .write-note .result) ≡ lengthOf (textInto (refusedLines (numberOf (c .before .before .before .before .before .args .refusal))) (length (c .before .before .before .before .before .args .output .now)))
+unfolding ascii
+hands c = rw (c .before .before .number .ensures, note-is) at (c .write-note .ensures .0)
+
+out : (c : tie.After-write-note) → c .write-note .last .1 .1 .0 ≡ textAfter (textInto (refusedLines (numberOf (c .before .before .before .before .before .args .refusal))) (length (c .before .before .before .before .before .args .output .now))) (c .before .before .before .before .before .args .output .now)
+unfolding ascii
+out c = rw (c .before .before .number .ensures, note-is) at (c .write-note .ensures .1)
+
+slice-aggregate-write-note : tie.Need-slice-aggregate-write-note
+slice-aggregate-write-note c = search needs
+
+number-requires : tie.Need-number-requires
+number-requires c κs = search needs
+
+write-note-requires : tie.Need-write-note-requires
+write-note-requires c κs = search needs
+
+enum-known-n : tie.Need-enum-known-n
+enum-known-n c = search needs
+
+enum-told : tie.Need-enum-told
+enum-told c = search needs
+
+same-length : tie.Need-same-length
+same-length c = search needs
+
+returns : tie.Need-returns
+returns c = let a = c .before .before .before .before .before .before .before .before .before .before .args in
+    print-all (refused (numberOf (a .refusal))) (refusedLines (numberOf (a .refusal))) (a .output .now) _ (c .before .before .before .before .before .write-note .result) (hands (c .before .before .before .before .before)) (out (c .before .before .before .before .before))
+    (Refused (c .before .n .given .0 .0) (a .refusal)) (c .before .n .given .0 .0) (c .before .n .given .1) refl refl
+
+same-length-2 : tie.Need-same-length-2
+same-length-2 c = search needs
+
+returns-2 : tie.Need-returns-2
+returns-2 c = let a = c .before .before .before .before .before .before .before .before .before .args in
+    print-short (refused (numberOf (a .refusal))) (refusedLines (numberOf (a .refusal))) (a .output .now) _ (c .before .before .before .before .write-note .result) (hands (c .before .before .before .before)) (out (c .before .before .before .before)) _ (c .enum-told .given .1)
+
+pub refuse-spec : {M : Type 1} → statement M
+refuse-spec =
+    tie.close
+    (tie.spec
+    slice-aggregate-write-note
+    number-requires
+    write-note-requires
+    enum-known-n
+    enum-told
+    same-length
+    returns
+    same-length-2
+    returns-2)
