@@ -8,24 +8,16 @@ use Rattle.allocation.specs.Judged.{verdictOf, TotalOf}
 use Rattle.allocation.proofs.AllocateLaws.{fits, call-refused, call-asks, call-allocated}
 use Rattle.allocation.proofs.allocate.Statement.{statement}
 use Rattle.allocation.proofs.allocate.Tie as tie
-use Rattle.allocation.proofs.allocate.Reads as reads
-use Rattle.allocation.proofs.allocate.Lts as lts
-use Rattle.allocation.proofs.assign.Reads as assign-reads
-use Rattle.allocation.proofs.judging.judge.Reads as judge-reads
 
--- src/lib.rt:77:9
 judge-requires : tie.Need-judge-requires
 judge-requires c κs = search needs
 
--- src/lib.rt:79:25
 enum-known-judged : tie.Need-enum-known-judged
 enum-known-judged c = search needs
 
--- src/lib.rt:80:26
 enum-known-judged-2 : tie.Need-enum-known-judged-2
 enum-known-judged-2 c = search needs
 
--- src/lib.rt:82:60
 slice-relend-prefix-assign : tie.Need-slice-relend-prefix-assign
 slice-relend-prefix-assign c =
     let a = c .before .before .before .before .before .before .before .args in
@@ -33,7 +25,6 @@ slice-relend-prefix-assign c =
     let is = c .before .judged2 .given .1 in
     fits (a .method) (a .accounts .now) (a .shorts .now) (a .exercised .0) (a .draw) (a .amounts .now) (sym (ap verdictOf is) ∙ judge .ensures .0) (c .before .judged2 .given .0 .0 .0) (subst (TotalOf (total (a .shorts .now))) is (judge .ensures .1))
 
--- src/lib.rt:82:60
 slice-aggregate-assign : tie.Need-slice-aggregate-assign
 slice-aggregate-assign c =
     let a = c .before .before .before .before .before .before .before .before .args in
@@ -41,7 +32,6 @@ slice-aggregate-assign c =
     let is = c .before .before .judged2 .given .1 in
     sym (length-take-le (length (a .shorts .now)) (a .amounts .now) (fits (a .method) (a .accounts .now) (a .shorts .now) (a .exercised .0) (a .draw) (a .amounts .now) (sym (ap verdictOf is) ∙ judge .ensures .0) (c .before .before .judged2 .given .0 .0 .0) (subst (TotalOf (total (a .shorts .now))) is (judge .ensures .1))))
 
--- src/lib.rt:82:13
 assign-requires : tie.Need-assign-requires
 assign-requires c κs =
     let a = c .before .before .before .before .before .before .before .before .args in
@@ -49,7 +39,6 @@ assign-requires c κs =
     let is = c .before .before .judged2 .given .1 in
     call-asks (a .method) (a .accounts .now) (a .shorts .now) (a .exercised .0) (a .draw) (a .amounts .now) (sym (ap verdictOf is) ∙ judge .ensures .0) (c .before .before .judged2 .given .0 .0 .0) (subst (TotalOf (total (a .shorts .now))) is (judge .ensures .1))
 
--- src/lib.rt:65:1
 returns : tie.Need-returns
 returns c =
     let a = c .before .before .before .before .before .before .before .args in
@@ -57,11 +46,9 @@ returns c =
     let is = c .before .judged .given .1 in
     call-refused (a .method) (a .accounts .now) (a .shorts .now) (a .exercised .0) (a .draw) (a .amounts .now) _ (sym (ap verdictOf is) ∙ judge .ensures .0)
 
--- src/lib.rt:65:1
 same-length : tie.Need-same-length
 same-length c = search needs
 
--- src/lib.rt:65:1
 returns-2 : tie.Need-returns-2
 returns-2 c =
     let a = c .before .before .before .before .before .before .before .before .before .before .before .args in

@@ -5,59 +5,42 @@ use Rattle.series_text.specs.Parts.{namedMeans}
 use Rattle.dilbreth.proofs.ExportLaws.{letter-unknown, letter-known}
 use Rattle.dilbreth.proofs.dilbreth_allocate.Statement.{statement}
 use Rattle.dilbreth.proofs.dilbreth_allocate.Tie as tie
-use Rattle.dilbreth.proofs.dilbreth_allocate.Reads as reads
-use Rattle.dilbreth.proofs.dilbreth_allocate.Lts as lts
-use Rattle.allocation.proofs.allocate.Reads as allocate-reads
-use Rattle.series.proofs.number.Reads as number-reads
-use Rattle.series_text.proofs.method_by.Reads as method-by-reads
 
--- src/lib.rt:30:32
 method-by-requires : tie.Need-method-by-requires
 method-by-requires c κs = search needs
 
--- src/lib.rt:30:23
 enum-known-named : tie.Need-enum-known-named
 enum-known-named c = search needs
 
--- src/lib.rt:31:9
 enum-told : tie.Need-enum-told
 enum-told c = search needs
 
--- src/lib.rt:31:9
 returns : tie.Need-returns
 returns c =
     let a = c .before .before .before .before .before .before .args in
     letter-unknown (a .method) (a .accounts .now) (a .shorts .now) (a .exercised) (a .draw) (a .amounts .now) (a .total .now) (a .further .now) (sym (ap namedMeans (c .enum-told .given .1)) ∙ c .before .before .method-by .ensures)
 
--- src/lib.rt:33:11
 allocate-requires : tie.Need-allocate-requires
 allocate-requires c κs = search needs
 
--- src/lib.rt:34:32
 enum-known-sum : tie.Need-enum-known-sum
 enum-known-sum c = search needs
 
--- src/lib.rt:40:20
 enum-known-sum-2 : tie.Need-enum-known-sum-2
 enum-known-sum-2 c = search needs
 
--- src/lib.rt:47:34
 enum-known-sum-3 : tie.Need-enum-known-sum-3
 enum-known-sum-3 c = search needs
 
--- src/lib.rt:52:25
 enum-known-refusal : tie.Need-enum-known-refusal
 enum-known-refusal c = search needs
 
--- src/lib.rt:52:37
 number-requires : tie.Need-number-requires
 number-requires c κs = search needs
 
--- src/lib.rt:14:1
 same-length : tie.Need-same-length
 same-length c = search needs
 
--- src/lib.rt:14:1
 returns-2 : tie.Need-returns-2
 returns-2 c =
     let a = c .before .before .before .before .before .before .before .before .before .before .before .before .before .before .args in
@@ -65,11 +48,9 @@ returns-2 c =
     let call = c .before .before .before .before .before .allocate in
     letter-known (a .method) (a .accounts .now) (a .shorts .now) (a .exercised) (a .draw) (a .amounts .now) (a .total .now) (a .further .now) _ _ (call .last .1 .1 .1 .1 .1 .0) (sym (ap namedMeans (named .1)) ∙ c .before .before .before .before .before .before .before .before .before .before .method-by .ensures) (sym (ap outcomeOf (c .before .sum .given .1)) ∙ call .ensures .0) (call .ensures .1 .0)
 
--- src/lib.rt:14:1
 same-length-2 : tie.Need-same-length-2
 same-length-2 c = search needs
 
--- src/lib.rt:14:1
 returns-3 : tie.Need-returns-3
 returns-3 c =
     let a = c .before .before .before .before .before .before .before .before .before .before .before .before .before .before .args in
@@ -77,11 +58,9 @@ returns-3 c =
     let call = c .before .before .before .before .before .allocate in
     letter-known (a .method) (a .accounts .now) (a .shorts .now) (a .exercised) (a .draw) (a .amounts .now) (a .total .now) (a .further .now) _ _ (call .last .1 .1 .1 .1 .1 .0) (sym (ap namedMeans (named .1)) ∙ c .before .before .before .before .before .before .before .before .before .before .method-by .ensures) (sym (ap outcomeOf (c .before .sum2 .given .1)) ∙ call .ensures .0) (call .ensures .1 .0)
 
--- src/lib.rt:14:1
 same-length-3 : tie.Need-same-length-3
 same-length-3 c = search needs
 
--- src/lib.rt:14:1
 returns-4 : tie.Need-returns-4
 returns-4 c =
     let a = c .before .before .before .before .before .before .before .before .before .before .before .before .before .before .args in
@@ -89,11 +68,9 @@ returns-4 c =
     let call = c .before .before .before .before .before .allocate in
     letter-known (a .method) (a .accounts .now) (a .shorts .now) (a .exercised) (a .draw) (a .amounts .now) (a .total .now) (a .further .now) _ _ (call .last .1 .1 .1 .1 .1 .0) (sym (ap namedMeans (named .1)) ∙ c .before .before .before .before .before .before .before .before .before .before .method-by .ensures) (sym (ap outcomeOf (c .before .sum3 .given .1)) ∙ call .ensures .0) (call .ensures .1 .0)
 
--- src/lib.rt:14:1
 same-length-4 : tie.Need-same-length-4
 same-length-4 c = search needs
 
--- src/lib.rt:14:1
 returns-5 : tie.Need-returns-5
 returns-5 c =
     let a = c .before .before .before .before .before .before .before .before .before .before .before .before .before .before .before .args in

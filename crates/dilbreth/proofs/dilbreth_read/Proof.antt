@@ -6,41 +6,28 @@ use Rattle.dilbreth.proofs.ExportLaws.{handed-status}
 use lib.ListN.{length}
 use Rattle.dilbreth.proofs.dilbreth_read.Statement.{statement}
 use Rattle.dilbreth.proofs.dilbreth_read.Tie as tie
-use Rattle.dilbreth.proofs.dilbreth_read.Reads as reads
-use Rattle.dilbreth.proofs.dilbreth_read.Lts as lts
-use Rattle.series.proofs.number.Reads as number-reads
-use Rattle.series_text.proofs.letter_of.Reads as letter-of-reads
-use Rattle.series_text.proofs.read.Reads as read-reads
 
--- src/lib.rt:73:11
 read-requires : tie.Need-read-requires
 read-requires c κs = search needs
 
--- src/lib.rt:75:21
 enum-known-named : tie.Need-enum-known-named
 enum-known-named c = search needs
 
--- src/lib.rt:80:23
 letter-of-requires : tie.Need-letter-of-requires
 letter-of-requires c κs = search needs
 
--- src/lib.rt:86:26
 enum-known-refusal : tie.Need-enum-known-refusal
 enum-known-refusal c = search needs
 
--- src/lib.rt:86:38
 number-requires : tie.Need-number-requires
 number-requires c κs = search needs
 
--- src/lib.rt:57:1
 same-length : tie.Need-same-length
 same-length c = search needs
 
--- src/lib.rt:57:1
 same-length-2 : tie.Need-same-length-2
 same-length-2 c = search needs
 
--- src/lib.rt:57:1
 returns : tie.Need-returns
 returns c =
     let a = c .before .before .before .before .before .before .before .before .before .before .before .before .before .before .args in
@@ -50,15 +37,12 @@ returns c =
     let number = handed-status _ (readInto (a .text .now) (length (a .accounts .now)) (length (a .shorts .now))) told in
     (number, (call .ensures .1 .0, (call .ensures .1 .1, (c .letter-of .ensures ∙ ap (λ h. letterAfter h (a .method .now)) told, (ap (λ h. exercisedAfter h (a .exercised .now)) told, ap (λ h. drawAfter h (a .draw .now)) told, ap (λ h. positionsAfter h (a .positions .now)) told)))))
 
--- src/lib.rt:57:1
 same-length-3 : tie.Need-same-length-3
 same-length-3 c = search needs
 
--- src/lib.rt:57:1
 same-length-4 : tie.Need-same-length-4
 same-length-4 c = search needs
 
--- src/lib.rt:57:1
 returns-2 : tie.Need-returns-2
 returns-2 c =
     let a = c .before .before .before .before .before .before .before .before .before .before .before .before .before .before .args in

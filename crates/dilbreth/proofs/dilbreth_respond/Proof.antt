@@ -9,31 +9,22 @@ use Rattle.dilbreth.specs.Texts.{status, numberAfter}
 use Rattle.dilbreth.proofs.ExportLaws.{length-status}
 use Rattle.dilbreth.proofs.dilbreth_respond.Statement.{statement}
 use Rattle.dilbreth.proofs.dilbreth_respond.Tie as tie
-use Rattle.dilbreth.proofs.dilbreth_respond.Reads as reads
-use Rattle.dilbreth.proofs.dilbreth_respond.Lts as lts
-use Rattle.assignment_text.proofs.respond.Reads as respond-reads
 
--- src/lib.rt:126:11
 respond-requires : tie.Need-respond-requires
 respond-requires c κs = search needs
 
--- src/lib.rt:127:28
 enum-known-n : tie.Need-enum-known-n
 enum-known-n c = search needs
 
--- src/lib.rt:131:27
 enum-known-n-2 : tie.Need-enum-known-n-2
 enum-known-n-2 c = search needs
 
--- src/lib.rt:135:31
 enum-told : tie.Need-enum-told
 enum-told c = search needs
 
--- src/lib.rt:120:1
 same-length : tie.Need-same-length
 same-length c = search needs
 
--- src/lib.rt:120:1
 returns : tie.Need-returns
 returns c =
     let a = c .before .before .before .before .before .before .before .before .before .args in
@@ -41,11 +32,9 @@ returns c =
     let told = sym (ap responseOf (c .before .n .given .1)) ∙ call .ensures .0 in
     (ap status told ∙ length-status (printInto (a .text .now) (length (a .output .now))), (call .ensures .1 .0, ap (λ (w : Result ℕ). numberAfter w (a .written .now)) told))
 
--- src/lib.rt:120:1
 same-length-2 : tie.Need-same-length-2
 same-length-2 c = search needs
 
--- src/lib.rt:120:1
 returns-2 : tie.Need-returns-2
 returns-2 c =
     let a = c .before .before .before .before .before .before .before .before .before .args in
@@ -53,11 +42,9 @@ returns-2 c =
     let told = sym (ap responseOf (c .before .n2 .given .1)) ∙ call .ensures .0 in
     (ap status told ∙ length-status (printInto (a .text .now) (length (a .output .now))), (call .ensures .1 .0, ap (λ (w : Result ℕ). numberAfter w (a .written .now)) told))
 
--- src/lib.rt:120:1
 same-length-3 : tie.Need-same-length-3
 same-length-3 c = search needs
 
--- src/lib.rt:120:1
 returns-3 : tie.Need-returns-3
 returns-3 c =
     let a = c .before .before .before .before .before .before .before .before .args in

@@ -5,51 +5,36 @@ use Rattle.series_text.specs.Calls.{writingOf}
 use Rattle.dilbreth.proofs.ExportLaws.{write-unknown, write-known}
 use Rattle.dilbreth.proofs.dilbreth_write.Statement.{statement}
 use Rattle.dilbreth.proofs.dilbreth_write.Tie as tie
-use Rattle.dilbreth.proofs.dilbreth_write.Reads as reads
-use Rattle.dilbreth.proofs.dilbreth_write.Lts as lts
-use Rattle.series.proofs.number.Reads as number-reads
-use Rattle.series_text.proofs.method_by.Reads as method-by-reads
-use Rattle.series_text.proofs.write.Reads as write-reads
 
--- src/lib.rt:105:32
 method-by-requires : tie.Need-method-by-requires
 method-by-requires c κs = search needs
 
--- src/lib.rt:105:23
 enum-known-named : tie.Need-enum-known-named
 enum-known-named c = search needs
 
--- src/lib.rt:106:9
 enum-told : tie.Need-enum-told
 enum-told c = search needs
 
--- src/lib.rt:106:9
 returns : tie.Need-returns
 returns c =
     let a = c .before .before .before .before .before .before .args in
     write-unknown (a .method) (a .exercised) (a .draw) (a .accounts .now) (a .shorts .now) (a .text .now) (a .written .now) (sym (ap namedMeans (c .enum-told .given .1)) ∙ c .before .before .method-by .ensures)
 
--- src/lib.rt:108:11
 write-requires : tie.Need-write-requires
 write-requires c κs = search needs
 
--- src/lib.rt:109:26
 enum-known-n : tie.Need-enum-known-n
 enum-known-n c = search needs
 
--- src/lib.rt:113:26
 enum-known-refusal : tie.Need-enum-known-refusal
 enum-known-refusal c = search needs
 
--- src/lib.rt:113:38
 number-requires : tie.Need-number-requires
 number-requires c κs = search needs
 
--- src/lib.rt:91:1
 same-length : tie.Need-same-length
 same-length c = search needs
 
--- src/lib.rt:91:1
 returns-2 : tie.Need-returns-2
 returns-2 c =
     let a = c .before .before .before .before .before .before .before .before .before .before .before .before .before .before .args in
@@ -57,11 +42,9 @@ returns-2 c =
     let told = write-known (a .method) (a .exercised) (a .draw) (a .accounts .now) (a .shorts .now) (a .text .now) (a .written .now) _ _ (call .last .1 .1 .1 .1 .1 .0) (sym (ap namedMeans (c .before .before .before .before .before .before .before .before .named .given .1)) ∙ c .before .before .before .before .before .before .before .before .before .before .method-by .ensures) (sym (ap writingOf (c .before .n .given .1)) ∙ call .ensures .0) (call .ensures .1) in
     told
 
--- src/lib.rt:91:1
 same-length-2 : tie.Need-same-length-2
 same-length-2 c = search needs
 
--- src/lib.rt:91:1
 returns-3 : tie.Need-returns-3
 returns-3 c =
     let a = c .before .before .before .before .before .before .before .before .before .before .before .before .before .before .before .args in

@@ -6,48 +6,36 @@ use Rattle.allocation.specs.Judged.{verdictOf, TotalOf}
 use Rattle.allocation.proofs.JudgingLaws.{refused-lengths, refused-many, refused-none, refused-room, refused-listed, refused-nothing, refused-above, judged-draw}
 use Rattle.allocation.proofs.judging.judge.Statement.{statement}
 use Rattle.allocation.proofs.judging.judge.Tie as tie
-use Rattle.allocation.proofs.judging.judge.Reads as reads
-use Rattle.allocation.proofs.judging.judge.Lts as lts
-use Rattle.allocation.proofs.judging.judge_draw.Reads as judge-draw-reads
-use Rattle.allocation.proofs.judging.judge_positions.Reads as judge-positions-reads
 
--- src/judging.rt:92:9
 returns : tie.Need-returns
 returns c =
     let a = c .before .before .before .args in
     (refused-lengths (a .method) (a .accounts .now) (a .shorts .now) (a .exercised .0) (a .draw) (a .room) (c .if1 .taken), tt)
 
--- src/judging.rt:95:9
 returns-2 : tie.Need-returns-2
 returns-2 c =
     let a = c .before .before .before .before .args in
     (refused-many (a .method) (a .accounts .now) (a .shorts .now) (a .exercised .0) (a .draw) (a .room) (c .before .if1 .left) (c .if2 .taken), tt)
 
--- src/judging.rt:98:9
 returns-3 : tie.Need-returns-3
 returns-3 c =
     let a = c .before .before .before .before .before .args in
     (refused-none (a .method) (a .accounts .now) (a .shorts .now) (a .exercised .0) (a .draw) (a .room) (c .before .before .if1 .left) (c .before .if2 .left) (c .if3 .taken), tt)
 
--- src/judging.rt:101:9
 returns-4 : tie.Need-returns-4
 returns-4 c =
     let a = c .before .before .before .before .before .before .args in
     (refused-room (a .method) (a .accounts .now) (a .shorts .now) (a .exercised .0) (a .draw) (a .room) (c .before .before .before .if1 .left) (c .before .before .if2 .left) (c .before .if3 .left) (c .if4 .taken), tt)
 
--- src/judging.rt:103:9
 judge-positions-requires : tie.Need-judge-positions-requires
 judge-positions-requires c κs = search needs
 
--- src/judging.rt:105:25
 enum-known-listed : tie.Need-enum-known-listed
 enum-known-listed c = search needs
 
--- src/judging.rt:106:26
 enum-known-listed-2 : tie.Need-enum-known-listed-2
 enum-known-listed-2 c = search needs
 
--- src/judging.rt:108:17
 returns-5 : tie.Need-returns-5
 returns-5 c =
     let a = c .before .before .before .before .before .before .before .before .before .before .before .before .args in
@@ -56,7 +44,6 @@ returns-5 c =
     let T = c .before .before .before .listed2 .given .0 .0 in
     (refused-nothing (a .method) (a .accounts .now) (a .shorts .now) (a .exercised .0) (a .draw) (a .room) (c .before .before .before .before .before .before .before .before .before .if1 .left) (c .before .before .before .before .before .before .before .before .if2 .left) (c .before .before .before .before .before .before .before .if3 .left) (c .before .before .before .before .before .before .if4 .left) (sym (ap verdictOf is) ∙ listed .ensures .0) (T .0) (subst (TotalOf (total (a .shorts .now))) is (listed .ensures .1)) (c .if5 .taken), tt)
 
--- src/judging.rt:111:17
 returns-6 : tie.Need-returns-6
 returns-6 c =
     let a = c .before .before .before .before .before .before .before .before .before .before .before .before .before .before .before .args in
@@ -65,11 +52,9 @@ returns-6 c =
     let T = c .before .before .before .before .before .before .listed2 .given .0 .0 in
     (refused-above (a .method) (a .accounts .now) (a .shorts .now) (a .exercised .0) (a .draw) (a .room) (c .before .before .before .before .before .before .before .before .before .before .before .before .if1 .left) (c .before .before .before .before .before .before .before .before .before .before .before .if2 .left) (c .before .before .before .before .before .before .before .before .before .before .if3 .left) (c .before .before .before .before .before .before .before .before .before .if4 .left) (sym (ap verdictOf is) ∙ listed .ensures .0) (T .0) (subst (TotalOf (total (a .shorts .now))) is (listed .ensures .1)) (c .before .before .before .if5 .left) (c .if6 .taken), tt)
 
--- src/judging.rt:113:13
 judge-draw-requires : tie.Need-judge-draw-requires
 judge-draw-requires c κs = search needs
 
--- src/judging.rt:80:1
 returns-7 : tie.Need-returns-7
 returns-7 c =
     let a = c .before .before .before .before .before .before .before .before .before .before .args in
@@ -77,7 +62,6 @@ returns-7 c =
     let is = c .before .listed .given .1 in
     (refused-listed (a .method) (a .accounts .now) (a .shorts .now) (a .exercised .0) (a .draw) (a .room) (c .before .before .before .before .before .before .before .if1 .left) (c .before .before .before .before .before .before .if2 .left) (c .before .before .before .before .before .if3 .left) (c .before .before .before .before .if4 .left) _ (sym (ap verdictOf is) ∙ listed .ensures .0), tt)
 
--- src/judging.rt:80:1
 returns-8 : tie.Need-returns-8
 returns-8 c =
     let a = c .before .before .before .before .before .before .before .before .before .before .before .before .before .before .before .before .args in

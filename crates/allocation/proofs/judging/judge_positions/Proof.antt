@@ -5,8 +5,6 @@ use lib.ListN.{length}
 use Rattle.allocation.proofs.JudgingLaws.{Judging, judging-start, refused-account, refused-shorts, refused-total, judging-next, judged-all}
 use Rattle.allocation.proofs.judging.judge_positions.Statement.{statement}
 use Rattle.allocation.proofs.judging.judge_positions.Tie as tie
-use Rattle.allocation.proofs.judging.judge_positions.Reads as reads
-use Rattle.allocation.proofs.judging.judge_positions.Lts as lts
 
 abbrev Inv-loop : tie.InvT-loop
 Inv-loop accounts shorts before₀ sum₀ i₀ before sum i = Judging accounts shorts before sum i
@@ -14,71 +12,57 @@ Inv-loop accounts shorts before₀ sum₀ i₀ before sum i = Judging accounts s
 abbrev μ-loop : tie.MeasureT-loop
 μ-loop accounts shorts before₀ sum₀ i₀ before sum i = length shorts - i
 
--- src/judging.rt:27:5
 loop-holds : tie.Need-loop-holds Inv-loop μ-loop
 loop-holds c = judging-start (c .args .accounts .now) (c .args .shorts .now)
 
--- src/judging.rt:28:23
 mul-account : tie.Need-mul-account Inv-loop μ-loop
 mul-account c = search needs
 
--- src/judging.rt:28:23
 shared-slice-read-account : tie.Need-shared-slice-read-account Inv-loop μ-loop
 shared-slice-read-account c = omega (arith, c .before .before .before .pre)
 
--- src/judging.rt:29:21
 mul-count : tie.Need-mul-count Inv-loop μ-loop
 mul-count c = search needs
 
--- src/judging.rt:29:21
 shared-slice-read-count : tie.Need-shared-slice-read-count Inv-loop μ-loop
 shared-slice-read-count c = search needs
 
--- src/judging.rt:31:13
 returns : tie.Need-returns Inv-loop μ-loop
 returns c =
     let seen = c .before .before .before .before in
     let a = seen .before .args in
     (refused-account (a .accounts .now) (a .shorts .now) (seen .loop .before) (seen .loop .sum) (seen .loop .i) (seen .before .pre) (seen .loop .inv) (c .before .before .before .loop-test .taken) (c .if1 .taken), tt)
 
--- src/judging.rt:34:13
 returns-2 : tie.Need-returns-2 Inv-loop μ-loop
 returns-2 c =
     let seen = c .before .before .before .before .before in
     let a = seen .before .args in
     (refused-shorts (a .accounts .now) (a .shorts .now) (seen .loop .before) (seen .loop .sum) (seen .loop .i) (seen .before .pre) (seen .loop .inv) (c .before .before .before .before .loop-test .taken) (c .before .if1 .left) (c .if2 .taken), tt)
 
--- src/judging.rt:36:12
 sub-if3 : tie.Need-sub-if3 Inv-loop μ-loop
 sub-if3 c = search needs
 
--- src/judging.rt:37:13
 returns-3 : tie.Need-returns-3 Inv-loop μ-loop
 returns-3 c =
     let seen = c .before .before .before .before .before .before in
     let a = seen .before .args in
     (refused-total (a .accounts .now) (a .shorts .now) (seen .loop .before) (seen .loop .sum) (seen .loop .i) (seen .before .pre) (seen .loop .inv) (c .before .before .before .before .before .loop-test .taken) (c .before .before .if1 .left) (c .before .if2 .left) (c .if3 .taken), tt)
 
--- src/judging.rt:40:9
 add-sum : tie.Need-add-sum Inv-loop μ-loop
 add-sum c = omega (arith, c .if3 .left)
 
--- src/judging.rt:41:9
 add-i : tie.Need-add-i Inv-loop μ-loop
 add-i c = search needs
 
--- src/judging.rt:27:5
 loop-less : tie.Need-loop-less Inv-loop μ-loop
 loop-less c = search needs
 
--- src/judging.rt:27:5
 loop-again : tie.Need-loop-again Inv-loop μ-loop
 loop-again c =
     let seen = c .before .before .before .before .before .before in
     let a = seen .before .args in
     judging-next (a .accounts .now) (a .shorts .now) (seen .loop .before) (seen .loop .sum) (seen .loop .i) (seen .before .pre) (seen .loop .inv) (c .before .before .before .before .before .loop-test .taken) (c .before .before .if1 .left) (c .before .if2 .left) (c .if3 .left)
 
--- src/judging.rt:19:1
 returns-4 : tie.Need-returns-4 Inv-loop μ-loop
 returns-4 c =
     let seen = c .before in

@@ -8,8 +8,6 @@ use lib.ListN.{length, drop, replicate, set, length-set}
 use lib.Seq.{drop-length}
 use Rattle.allocation.proofs.lists.clear.Statement.{statement}
 use Rattle.allocation.proofs.lists.clear.Tie as tie
-use Rattle.allocation.proofs.lists.clear.Reads as reads
-use Rattle.allocation.proofs.lists.clear.Lts as lts
 
 abbrev Inv-loop : tie.InvT-loop
 Inv-loop amounts₀ i₀ amounts i = (i ≤ length amounts₀) × (length amounts ≡ length amounts₀) × (amounts ≡ replicate i 0 ++ drop i amounts₀)
@@ -17,27 +15,21 @@ Inv-loop amounts₀ i₀ amounts i = (i ≤ length amounts₀) × (length amount
 abbrev μ-loop : tie.MeasureT-loop
 μ-loop amounts₀ i₀ amounts i = length amounts₀ - i
 
--- src/lists.rt:10:5
 loop-holds : tie.Need-loop-holds Inv-loop μ-loop
 loop-holds c = (search needs, refl, fill-none (c .args .amounts .now) 0)
 
--- src/lists.rt:11:9
 mul-amounts : tie.Need-mul-amounts Inv-loop μ-loop
 mul-amounts c = search needs
 
--- src/lists.rt:11:9
 slice-write-amounts : tie.Need-slice-write-amounts Inv-loop μ-loop
 slice-write-amounts c = search needs
 
--- src/lists.rt:12:9
 add-i : tie.Need-add-i Inv-loop μ-loop
 add-i c = search needs
 
--- src/lists.rt:10:5
 loop-less : tie.Need-loop-less Inv-loop μ-loop
 loop-less c = search needs
 
--- src/lists.rt:10:5
 loop-again : tie.Need-loop-again Inv-loop μ-loop
 loop-again c =
     let seen = c .before in
@@ -48,11 +40,9 @@ loop-again c =
       ap (λ (l : List ℕ). set l i 0) (seen .loop .inv .2) ∙ fill-more i 0 old (omega arith),
     )
 
--- src/lists.rt:6:1
 same-length : tie.Need-same-length Inv-loop μ-loop
 same-length c = c .before .loop .inv .1
 
--- src/lists.rt:6:1
 returns : tie.Need-returns Inv-loop μ-loop
 returns c =
     let seen = c .before in

@@ -7,8 +7,6 @@ use Rattle.series.specs.Sums.{listed}
 use Rattle.allocation.proofs.ListLaws.{filled, fill-none, fill-more, fill-length, fill-all, listed-own}
 use Rattle.allocation.proofs.lists.copy.Statement.{statement}
 use Rattle.allocation.proofs.lists.copy.Tie as tie
-use Rattle.allocation.proofs.lists.copy.Reads as reads
-use Rattle.allocation.proofs.lists.copy.Lts as lts
 
 abbrev Inv-loop : tie.InvT-loop
 Inv-loop shorts amounts₀ i₀ amounts i = (i ≤ length shorts) × (amounts ≡ filled (λ j. getD shorts j 0) i amounts₀)
@@ -16,23 +14,18 @@ Inv-loop shorts amounts₀ i₀ amounts i = (i ≤ length shorts) × (amounts �
 abbrev μ-loop : tie.MeasureT-loop
 μ-loop shorts amounts₀ i₀ amounts i = length shorts - i
 
--- src/lists.rt:22:5
 loop-holds : tie.Need-loop-holds Inv-loop μ-loop
 loop-holds c = (search needs, fill-none (λ j. getD (c .args .shorts .now) j 0) (c .args .amounts .now))
 
--- src/lists.rt:23:22
 mul-amounts : tie.Need-mul-amounts Inv-loop μ-loop
 mul-amounts c = search needs
 
--- src/lists.rt:23:22
 shared-slice-read-amounts : tie.Need-shared-slice-read-amounts Inv-loop μ-loop
 shared-slice-read-amounts c = search needs
 
--- src/lists.rt:23:9
 mul-amounts-2 : tie.Need-mul-amounts-2 Inv-loop μ-loop
 mul-amounts-2 c = search needs
 
--- src/lists.rt:23:9
 slice-write-amounts : tie.Need-slice-write-amounts Inv-loop μ-loop
 slice-write-amounts c =
     let seen = c .before .before in
@@ -40,22 +33,18 @@ slice-write-amounts c =
     let long : length (seen .loop .amounts) ≡ length (a .amounts .now) = fill-length (λ j. getD (a .shorts .now) j 0) (a .amounts .now) (seen .loop .amounts) (seen .loop .i) (seen .loop .inv .1) (omega (arith, seen .before .pre)) in
     omega (arith, seen .before .pre)
 
--- src/lists.rt:24:9
 add-i : tie.Need-add-i Inv-loop μ-loop
 add-i c = search needs
 
--- src/lists.rt:22:5
 loop-less : tie.Need-loop-less Inv-loop μ-loop
 loop-less c = search needs
 
--- src/lists.rt:22:5
 loop-again : tie.Need-loop-again Inv-loop μ-loop
 loop-again c =
     let seen = c .before .before in
     let a = seen .before .args in
     (search needs, fill-more (λ j. getD (a .shorts .now) j 0) (a .amounts .now) (seen .loop .amounts) (seen .loop .i) (getD (a .shorts .now) (seen .loop .i) 0) (seen .loop .inv .1) (omega (arith, seen .before .pre)) refl)
 
--- src/lists.rt:17:1
 same-length : tie.Need-same-length Inv-loop μ-loop
 same-length c =
     let seen = c .before in
@@ -63,7 +52,6 @@ same-length c =
     let long : length (seen .loop .amounts) ≡ length (a .amounts .now) = fill-length (λ j. getD (a .shorts .now) j 0) (a .amounts .now) (seen .loop .amounts) (seen .loop .i) (seen .loop .inv .1) (omega (arith, seen .before .pre)) in
     long
 
--- src/lists.rt:17:1
 returns : tie.Need-returns Inv-loop μ-loop
 returns c =
     let seen = c .before in

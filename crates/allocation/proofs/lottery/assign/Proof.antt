@@ -5,32 +5,22 @@ use Rattle.series.specs.Lottery.{lottery}
 use Rattle.allocation.proofs.RunLaws.{lottery-ready, lottery-done}
 use Rattle.allocation.proofs.lottery.assign.Statement.{statement}
 use Rattle.allocation.proofs.lottery.assign.Tie as tie
-use Rattle.allocation.proofs.lottery.assign.Reads as reads
-use Rattle.allocation.proofs.lottery.assign.Lts as lts
-use Rattle.allocation.proofs.lists.clear.Reads as clear-reads
-use Rattle.allocation.proofs.places.assign_run.Reads as assign-run-reads
-use Rattle.allocation.proofs.places.seek.Reads as seek-reads
 
--- src/lottery.rt:28:5
 clear-requires : tie.Need-clear-requires
 clear-requires c κs = search needs
 
--- src/lottery.rt:29:9
 seek-requires : tie.Need-seek-requires
 seek-requires c κs = search needs
 
--- src/lottery.rt:30:5
 assign-run-requires : tie.Need-assign-run-requires
 assign-run-requires c κs =
     let start = c .before .before .before .before .before .before .before .before in
     let a = start .args in
     lottery-ready (a .shorts .now) (a .amounts .now) (c .before .before .before .before .clear .last .0) (a .exercised .0) (a .start .0) (c .before .seek .result .at) (c .before .seek .result .passed .0) (start .pre .0) (start .pre .1 .0) (c .before .seek .ensures) (c .before .before .before .before .clear .ensures)
 
--- src/lottery.rt:22:1
 same-length : tie.Need-same-length
 same-length c = search needs
 
--- src/lottery.rt:22:1
 returns : tie.Need-returns
 returns c =
     let start = c .before .before .before .before .before .before .before .before .before .before .before in

@@ -5,26 +5,19 @@ use native.Mathlib.Nat.{mul-le-mul}
 use Rattle.series.specs.Lottery.{startingPlace}
 use Rattle.allocation.proofs.lottery.starting_place.Statement.{statement}
 use Rattle.allocation.proofs.lottery.starting_place.Tie as tie
-use Rattle.allocation.proofs.lottery.starting_place.Reads as reads
-use Rattle.allocation.proofs.lottery.starting_place.Lts as lts
 
--- src/lottery.rt:18:30
 cast-t4 : tie.Need-cast-t4
 cast-t4 c = search needs
 
--- src/lottery.rt:18:13
 mul-t5 : tie.Need-mul-t5
 mul-t5 c = omega (arith, mul-le-mul (c .before .pre .1) (c .before .pre .0))
 
--- src/lottery.rt:18:13
 add-t6 : tie.Need-add-t6
 add-t6 c = omega (arith, mul-le-mul (c .before .pre .1) (c .before .pre .0))
 
--- src/lottery.rt:18:11
 cast-t8 : tie.Need-cast-t8
 cast-t8 c = omega (arith, mul-le-mul (c .before .pre .1) (c .before .pre .0))
 
--- src/lottery.rt:14:1
 returns : tie.Need-returns
 unfolding startingPlace
 returns c = refl

@@ -7,8 +7,6 @@ use lib.ListN.{length, getD, set, length-set}
 use Rattle.allocation.proofs.StretchLaws.{Walk, walk-start, walk-next, walk-inside, walk-past, Growing, growing-start, growing-next, grown-inside, grown-past}
 use Rattle.allocation.proofs.places.hand.Statement.{statement}
 use Rattle.allocation.proofs.places.hand.Tie as tie
-use Rattle.allocation.proofs.places.hand.Reads as reads
-use Rattle.allocation.proofs.places.hand.Lts as lts
 
 abbrev Inv-loop : tie.InvT-loop
 Inv-loop shorts amounts₀ at₀ skipped₀ left₀ amounts i skipped left =
@@ -17,55 +15,44 @@ Inv-loop shorts amounts₀ at₀ skipped₀ left₀ amounts i skipped left =
 abbrev μ-loop : tie.MeasureT-loop
 μ-loop shorts amounts₀ at₀ skipped₀ left₀ amounts i skipped left = length shorts - i
 
--- src/places.rt:25:5
 loop-holds : tie.Need-loop-holds Inv-loop μ-loop
 loop-holds c =
     let a = c .args in
     (walk-start (a .shorts .now) (a .passed .0) (a .count .0) (c .pre .1), le-refl (a .count .0), growing-start (a .shorts .now) (a .amounts .now) (a .passed .0) (a .passed .0 + a .count .0))
 
--- src/places.rt:26:20
 mul-free : tie.Need-mul-free Inv-loop μ-loop
 mul-free c = search needs
 
--- src/places.rt:26:20
 shared-slice-read-free : tie.Need-shared-slice-read-free Inv-loop μ-loop
 shared-slice-read-free c = search needs
 
--- src/places.rt:26:20
 sub-free : tie.Need-sub-free Inv-loop μ-loop
 sub-free c = search needs
 
--- src/places.rt:28:13
 mul-amounts : tie.Need-mul-amounts Inv-loop μ-loop
 mul-amounts c = search needs
 
--- src/places.rt:28:13
 slice-read-amounts : tie.Need-slice-read-amounts Inv-loop μ-loop
 slice-read-amounts c =
     let seen = c .before .before .before .before in
     omega (arith, seen .before .pre .0 .lengths, seen .loop .inv .2 .same-length)
 
--- src/places.rt:28:13
 add-amounts : tie.Need-add-amounts Inv-loop μ-loop
 add-amounts c =
     let seen = c .before .before .before .before in
     omega (arith, seen .loop .inv .2 .rest (seen .loop .at) (le-refl (seen .loop .at)), seen .before .pre .0 .room (seen .loop .at) (c .before .before .before .loop-test .taken))
 
--- src/places.rt:28:13
 slice-write-amounts : tie.Need-slice-write-amounts Inv-loop μ-loop
 slice-write-amounts c =
     let seen = c .before .before .before .before in
     omega (arith, seen .before .pre .0 .lengths, seen .loop .inv .2 .same-length)
 
--- src/places.rt:31:35
 add-t15 : tie.Need-add-t15 Inv-loop μ-loop
 add-t15 c = omega (arith, c .before .before .shared-slice-known .given (c .before .before .before .before .loop .at))
 
--- src/places.rt:29:13
 same-length : tie.Need-same-length Inv-loop μ-loop
 same-length c = simp length-set (c .before .before .before .before .loop .inv .2 .same-length)
 
--- src/places.rt:29:13
 returns : tie.Need-returns Inv-loop μ-loop
 returns c =
     let seen = c .before .before .before .before in
@@ -74,37 +61,30 @@ returns c =
     let o : seen .loop .at < length (seen .loop .amounts) = omega (arith, seen .before .pre .0 .lengths, seen .loop .inv .2 .same-length) in
     (walk-inside (a .shorts .now) (a .passed .0) (a .passed .0 + a .count .0) (seen .loop .at) (seen .loop .skipped) (seen .loop .left) (seen .loop .inv .0) h (c .before .if1 .taken), grown-inside (a .shorts .now) (a .amounts .now) (seen .loop .amounts) (a .passed .0) (a .passed .0 + a .count .0) (seen .loop .at) (seen .loop .skipped) (seen .loop .left) (seen .loop .inv .0) (seen .loop .inv .2) h o (c .before .if1 .taken))
 
--- src/places.rt:35:9
 mul-amounts-2 : tie.Need-mul-amounts-2 Inv-loop μ-loop
 mul-amounts-2 c = search needs
 
--- src/places.rt:35:9
 slice-read-amounts-2 : tie.Need-slice-read-amounts-2 Inv-loop μ-loop
 slice-read-amounts-2 c =
     let seen = c .before .before .before .before in
     omega (arith, seen .before .pre .0 .lengths, seen .loop .inv .2 .same-length)
 
--- src/places.rt:35:9
 add-amounts-2 : tie.Need-add-amounts-2 Inv-loop μ-loop
 add-amounts-2 c =
     let seen = c .before .before .before .before in
     omega (arith, seen .loop .inv .2 .rest (seen .loop .at) (le-refl (seen .loop .at)), seen .before .pre .0 .room (seen .loop .at) (c .before .before .before .loop-test .taken))
 
--- src/places.rt:35:9
 slice-write-amounts-2 : tie.Need-slice-write-amounts-2 Inv-loop μ-loop
 slice-write-amounts-2 c =
     let seen = c .before .before .before .before in
     omega (arith, seen .before .pre .0 .lengths, seen .loop .inv .2 .same-length)
 
--- src/places.rt:38:9
 add-at : tie.Need-add-at Inv-loop μ-loop
 add-at c = search needs
 
--- src/places.rt:25:5
 loop-less : tie.Need-loop-less Inv-loop μ-loop
 loop-less c = search needs
 
--- src/places.rt:25:5
 loop-again : tie.Need-loop-again Inv-loop μ-loop
 loop-again c =
     let seen = c .before .before .before .before in
@@ -113,11 +93,9 @@ loop-again c =
     let o : seen .loop .at < length (seen .loop .amounts) = omega (arith, seen .before .pre .0 .lengths, seen .loop .inv .2 .same-length) in
     (walk-next (a .shorts .now) (a .passed .0) (a .passed .0 + a .count .0) (seen .loop .at) (seen .loop .skipped) (seen .loop .left) (seen .loop .inv .0) h (c .before .if1 .left), omega arith, growing-next (a .shorts .now) (a .amounts .now) (seen .loop .amounts) (a .passed .0) (a .passed .0 + a .count .0) (seen .loop .at) (seen .loop .skipped) (seen .loop .left) (seen .loop .inv .0) (seen .loop .inv .2) h o (c .before .if1 .left))
 
--- src/places.rt:16:1
 same-length-2 : tie.Need-same-length-2 Inv-loop μ-loop
 same-length-2 c = c .before .loop .inv .2 .same-length
 
--- src/places.rt:16:1
 returns-2 : tie.Need-returns-2 Inv-loop μ-loop
 returns-2 c =
     let seen = c .before in

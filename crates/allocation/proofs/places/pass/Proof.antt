@@ -6,8 +6,6 @@ use lib.ListN.{length, length-set}
 use Rattle.allocation.proofs.StretchLaws.{Walk, walk-start, walk-next, walk-inside, walk-past}
 use Rattle.allocation.proofs.places.pass.Statement.{statement}
 use Rattle.allocation.proofs.places.pass.Tie as tie
-use Rattle.allocation.proofs.places.pass.Reads as reads
-use Rattle.allocation.proofs.places.pass.Lts as lts
 
 abbrev Inv-loop : tie.InvT-loop
 Inv-loop shorts at₀ skipped₀ left₀ i skipped left = Walk shorts skipped₀ (skipped₀ + left₀) i skipped left × (left ≤ left₀)
@@ -15,39 +13,30 @@ Inv-loop shorts at₀ skipped₀ left₀ i skipped left = Walk shorts skipped₀
 abbrev μ-loop : tie.MeasureT-loop
 μ-loop shorts at₀ skipped₀ left₀ i skipped left = length shorts - i
 
--- src/places.rt:55:5
 loop-holds : tie.Need-loop-holds Inv-loop μ-loop
 loop-holds c = (walk-start (c .args .shorts .now) (c .args .passed .0) (c .args .count .0) (c .pre), le-refl (c .args .count .0))
 
--- src/places.rt:56:20
 mul-free : tie.Need-mul-free Inv-loop μ-loop
 mul-free c = search needs
 
--- src/places.rt:56:20
 shared-slice-read-free : tie.Need-shared-slice-read-free Inv-loop μ-loop
 shared-slice-read-free c = search needs
 
--- src/places.rt:56:20
 sub-free : tie.Need-sub-free Inv-loop μ-loop
 sub-free c = search needs
 
--- src/places.rt:60:35
 add-t12 : tie.Need-add-t12 Inv-loop μ-loop
 add-t12 c = omega (arith, c .before .shared-slice-known .given (c .before .before .before .loop .at))
 
--- src/places.rt:58:13
 returns : tie.Need-returns Inv-loop μ-loop
 returns c = search needs
 
--- src/places.rt:66:9
 add-at : tie.Need-add-at Inv-loop μ-loop
 add-at c = search needs
 
--- src/places.rt:55:5
 loop-less : tie.Need-loop-less Inv-loop μ-loop
 loop-less c = search needs
 
--- src/places.rt:55:5
 loop-again : tie.Need-loop-again Inv-loop μ-loop
 loop-again c =
     let seen = c .before .before .before in
@@ -56,7 +45,6 @@ loop-again c =
       omega arith,
     )
 
--- src/places.rt:48:1
 returns-2 : tie.Need-returns-2 Inv-loop μ-loop
 returns-2 c =
     let seen = c .before in

@@ -2,19 +2,13 @@ use borrow.Author.Needs.{needs}
 use Rattle.allocation.proofs.RunLaws.{stands-first}
 use Rattle.allocation.proofs.places.seek.Statement.{statement}
 use Rattle.allocation.proofs.places.seek.Tie as tie
-use Rattle.allocation.proofs.places.seek.Reads as reads
-use Rattle.allocation.proofs.places.seek.Lts as lts
-use Rattle.allocation.proofs.places.pass.Reads as pass-reads
 
--- src/places.rt:88:53
 sub-t6 : tie.Need-sub-t6
 sub-t6 c = search needs
 
--- src/places.rt:88:9
 pass-requires : tie.Need-pass-requires
 pass-requires c κs = search needs
 
--- src/places.rt:84:1
 returns : tie.Need-returns
 returns c =
     let start = c .before .before .before .before in

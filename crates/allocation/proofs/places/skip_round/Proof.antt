@@ -3,39 +3,28 @@ use Prim.Native.Nat.{_+_}
 use Rattle.allocation.proofs.RunLaws.{part-first, part-ends, stands-part, stands-top}
 use Rattle.allocation.proofs.places.skip_round.Statement.{statement}
 use Rattle.allocation.proofs.places.skip_round.Tie as tie
-use Rattle.allocation.proofs.places.skip_round.Reads as reads
-use Rattle.allocation.proofs.places.skip_round.Lts as lts
-use Rattle.allocation.proofs.places.pass.Reads as pass-reads
 
--- src/places.rt:129:21
 mul-pass : tie.Need-mul-pass
 mul-pass c = search needs
 
--- src/places.rt:129:21
 sub-pass : tie.Need-sub-pass
 sub-pass c = search needs
 
--- src/places.rt:129:21
 part-pass-start : tie.Need-part-pass-start
 part-pass-start c = search needs
 
--- src/places.rt:129:21
 part-pass-end : tie.Need-part-pass-end
 part-pass-end c = search needs
 
--- src/places.rt:129:9
 pass-requires : tie.Need-pass-requires
 pass-requires c κs = part-first (c .before .before .before .args .shorts .now) (c .before .before .before .args .cursor .at) (c .before .before .before .args .cursor .passed .0) (c .before .before .before .pre .0)
 
--- src/places.rt:131:13
 sub-if1 : tie.Need-sub-if1
 sub-if1 c = search needs
 
--- src/places.rt:134:17
 add-t18 : tie.Need-add-t18
 add-t18 c = search needs
 
--- src/places.rt:133:9
 returns : tie.Need-returns
 returns c =
     let start = c .before .before .before .before .before .before in
@@ -45,11 +34,9 @@ returns c =
     let ends = part-ends hs (a .cursor .at) (a .cursor .passed .0 + a .count .0) (stop .result .at) (stop .result .passed .0) (stop .result .left .0) (stop .ensures) in
     stands-part hs (a .cursor .at) (a .cursor .passed .0) (a .count .0) (stop .result .at) (stop .result .passed .0) (stop .result .left .0) (start .pre .0) ends (c .before .if1 .taken)
 
--- src/places.rt:139:9
 pass-requires-2 : tie.Need-pass-requires-2
 pass-requires-2 c κs = search needs
 
--- src/places.rt:122:1
 returns-2 : tie.Need-returns-2
 returns-2 c =
     let start = c .before .before .before .before .before .before .before .before in

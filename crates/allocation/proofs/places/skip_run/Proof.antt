@@ -3,38 +3,28 @@ use native.Mathlib.Omega.{arith}
 use Rattle.allocation.proofs.RunLaws.{stands-own}
 use Rattle.allocation.proofs.places.skip_run.Statement.{statement}
 use Rattle.allocation.proofs.places.skip_run.Tie as tie
-use Rattle.allocation.proofs.places.skip_run.Reads as reads
-use Rattle.allocation.proofs.places.skip_run.Lts as lts
-use Rattle.allocation.proofs.places.skip_round.Reads as skip-round-reads
 
--- src/places.rt:172:18
 mul-if1 : tie.Need-mul-if1
 mul-if1 c = search needs
 
--- src/places.rt:172:18
 shared-slice-read-if1 : tie.Need-shared-slice-read-if1
 shared-slice-read-if1 c = search needs
 
--- src/places.rt:172:18
 sub-if1 : tie.Need-sub-if1
 sub-if1 c = search needs
 
--- src/places.rt:175:31
 add-t11 : tie.Need-add-t11
 add-t11 c = omega (arith, c .before .before .if1 .taken, c .before .before .before .before .before .shared-slice-known2 .given (c .before .before .before .before .before .before .before .before .args .cursor .at))
 
--- src/places.rt:173:9
 returns : tie.Need-returns
 returns c =
     let start = c .before .before .before .before .before .before .before .before in
     let a = start .args in
     stands-own (a .shorts .now) (a .cursor .at) (a .cursor .passed .0) (a .count .0) (start .pre .0) (c .before .before .if1 .taken)
 
--- src/places.rt:178:5
 skip-round-requires : tie.Need-skip-round-requires
 skip-round-requires c κs = search needs
 
--- src/places.rt:165:1
 returns-2 : tie.Need-returns-2
 returns-2 c = search needs
 
