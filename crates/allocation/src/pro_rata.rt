@@ -151,19 +151,19 @@ impl RoundTwo {
     }
 
     // What the position with this decimal part gets, where `number` tied ones come before it in the list.
-    pub fn contract(self, part: u32, number: u32) -> u32
+    pub fn contract(self, part: u32, number: u32) -> Contracts
         requires { ⌜ Turns (self .tied) (self .first) (self .served) × (part ≡ self .cut → number < self .tied) ⌝ }
-        ensures { λ r. ⌜ r ≡ atCutOff (self .cut) (self .first) (self .tied) (self .served) part number ⌝ }
+        ensures { λ r. ⌜ r .0 ≡ atCutOff (self .cut) (self .first) (self .tied) (self .served) part number ⌝ }
     {
         if self.cut < part {
-            return 1;
+            return Contracts(1);
         }
         if part == self.cut {
             if self.in_turn(number) {
-                return 1;
+                return Contracts(1);
             }
         }
-        0
+        Contracts(0)
     }
 }
 
@@ -177,7 +177,7 @@ pub fn serve(parts: &[u32], round: RoundTwo, amounts: &mut [u32])
     let mut i = 0;
     while i < parts.len() {
         let part = parts[i];
-        amounts[i] += round.contract(part, number);
+        amounts[i] += round.contract(part, number).0;
         if part == cut {
             number += 1;
         }

@@ -49,24 +49,24 @@ slice-read-amounts : tie.Need-slice-read-amounts Inv-loop μ-loop
 slice-read-amounts c = omega (arith, fill-length _ _ _ _ (c .before .before .before .before .loop .inv .2) (omega arith))
 
 add-amounts : tie.Need-add-amounts Inv-loop μ-loop
-add-amounts c = let start = c .before .before .before .before .before .before .before in
-    let loop = c .before .before .before .before .loop in
+add-amounts c = let start = c .before .before .before .before .before .before .before .before in
+    let loop = c .before .before .before .before .before .loop in
     let i = loop .i in
     omega (
       arith,
       fill-rest _ _ _ _ (loop .inv .2) (omega arith),
       start .pre .0 .room i (omega arith),
-      c .before .contract .ensures,
+      c .before .before .contract .ensures,
       one-most (start .args .round .cut) (start .args .round .first) (start .args .round .tied) (start .args .round .served) (at (start .args .parts .now) i) (loop .number),
     )
 
 slice-write-amounts : tie.Need-slice-write-amounts Inv-loop μ-loop
-slice-write-amounts c = omega (arith, fill-length _ _ _ _ (c .before .before .before .before .loop .inv .2) (omega arith))
+slice-write-amounts c = omega (arith, fill-length _ _ _ _ (c .before .before .before .before .before .loop .inv .2) (omega arith))
 
 add-number : tie.Need-add-number Inv-loop μ-loop
-add-number c = let start = c .before .before .before .before .before .before .before .before in
-    let loop = c .before .before .before .before .before .loop in
-    omega (arith, start .pre .2, loop .inv .1, equal-before (at (start .args .parts .now)) (start .args .round .cut) _ (loop .i) (c .before .before .before .before .loop-test .taken) (c .if1 .taken))
+add-number c = let start = c .before .before .before .before .before .before .before .before .before in
+    let loop = c .before .before .before .before .before .before .loop in
+    omega (arith, start .pre .2, loop .inv .1, equal-before (at (start .args .parts .now)) (start .args .round .cut) _ (loop .i) (c .before .before .before .before .before .loop-test .taken) (c .if1 .taken))
 
 add-i : tie.Need-add-i Inv-loop μ-loop
 add-i c = omega arith
@@ -75,8 +75,8 @@ loop-less : tie.Need-loop-less Inv-loop μ-loop
 loop-less c = omega arith
 
 loop-again : tie.Need-loop-again Inv-loop μ-loop
-loop-again c = let start = c .before .before .before .before .before .before .before .before in
-    let loop = c .before .before .before .before .before .loop in
+loop-again c = let start = c .before .before .before .before .before .before .before .before .before in
+    let loop = c .before .before .before .before .before .before .loop in
     let i = loop .i in
     let d = at (start .args .parts .now) in
     let round = start .args .round in (
@@ -87,7 +87,7 @@ loop-again c = let start = c .before .before .before .before .before .before .be
           (c .if1 .came),
       fill-more _ _ _ _ _ (loop .inv .2) (omega arith)
           (ap₂ _+_ (fill-rest _ _ _ _ (loop .inv .2) (omega arith))
-          (c .before .before .contract .ensures ∙ ap (atCutOff (round .cut) (round .first) (round .tied) (round .served) (d i)) (loop .inv .1))),
+          (c .before .before .before .contract .ensures ∙ ap (atCutOff (round .cut) (round .first) (round .tied) (round .served) (d i)) (loop .inv .1))),
     )
 
 same-length : tie.Need-same-length Inv-loop μ-loop
