@@ -1,1 +1,2 @@
-pub mod Input
+-- What reading the input came to.
+pub mod Inputs

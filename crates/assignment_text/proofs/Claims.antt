@@ -1,5 +1,4 @@
 -- Document 01's case M in full, and what is printed for refusals, proved of the definitions by computation.
-use Prim.Native.Nat.{ℕ, suc}
 use Prim.Native.String.{String}
 use mathlib.Core.Path.{_≡_, refl}
 use mathlib.Core.List.{List, [], _∷_, map}

@@ -2,3 +2,4 @@
 pub mod Claims
 pub mod ReadingLaws
 pub mod PrintLaws
+pub mod RoomLaws

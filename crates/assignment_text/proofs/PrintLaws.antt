@@ -1,17 +1,17 @@
 -- What is printed, from what the parts of the call answered.
 use Prim.Native.Nat.{ℕ, _≤_}
-use mathlib.Core.Path.{_≡_, refl, sym, ap, subst, _∙_}
+use mathlib.Core.Path.{_≡_, refl, sym, ap, _∙_}
 use mathlib.Core.Bool.{Bool, true, false}
-use mathlib.Core.List.{List, [], _∷_, _++_, append-nil}
+use mathlib.Core.List.{List, [], _∷_, append-nil}
 use mathlib.Core.Logic.{⊎-elim}
 use native.Mathlib.Omega.{arith}
-use borrow.Author.Tests.{eq-eqb, le-ltb}
+use borrow.Author.Tests.{eq-eqb, le-ltb, ltb-false}
 use denote.Enum.Declared.{tagOf}
 use types.Run.{OneOf}
 use lib.Dec.{ltb}
 use lib.ListN.{length, drop}
 use lib.Seq.{drop-length}
-use Rattle.series.specs.Answers.{Outcome, allocation, refusal, numberOf, outcomeOf}
+use Rattle.series.specs.Answers.{allocation, refusal, numberOf, outcomeOf}
 use Rattle.series.specs.Refusals.{Verdict, accepted, refused, verdict}
 use Rattle.series.specs.Call.{assigned, answerTo, outputTo, answer, output}
 use Rattle.series.specs.declared.Method.{Method}
@@ -19,11 +19,11 @@ use Rattle.series.specs.declared.Refusal.{Refusal}
 use Rattle.series.specs.declared.Answer.{Answer}
 use Rattle.series.proofs.Answer.{the-type}
 use Rattle.series_text.specs.Ascii.{ascii}
-use Rattle.series_text.specs.Results.{Result, value, refuse}
+use Rattle.series_text.specs.Results.{value, refuse}
 use Rattle.series_text.specs.Results as Results
 use Rattle.series_text.specs.Text.{Text, Series, MOST, readText}
 use Rattle.series_text.specs.Calls.{writingOf, lengthOf, textAfter}
-use Rattle.series_text.specs.Tables.{tableText, tableInto, noteInto}
+use Rattle.series_text.specs.Tables.{tableInto, noteInto}
 use Rattle.series_text.specs.declared.Writing.{Writing}
 use Rattle.series_text.proofs.PositionLaws.{accounts-of, shorts-of, length-positions}
 use Rattle.assignment_text.specs.declared.Response.{Response}
@@ -119,3 +119,13 @@ text-refused s r old new n e p = rw e (p .hands, (p .output, p .tells))
 pub text-read : (s : Text) (r : Response) (old new : Text) (t : Series) → readText s ≡ value t → Responds r (seriesVerdict t) (seriesLines t) old new → Promised s r old new
 unfolding printInto printed readingLines textVerdict readingVerdict
 text-read s r old new t e p = rw e (p .hands, (p .output, p .tells))
+
+within : (b : Bool) (s : Text) (room n : ℕ) → ltb room (length s) ≡ b → value n ≡ lengthOf (refuse b 4 s) → n ≤ room
+unfolding lengthOf
+within true s room n t e = let z : _≡_ {A = ℕ} 0 1 = cc in absurd (omega arith)
+within false s room n t e = let is : n ≡ length s = cc in omega (arith, ltb-false room (length s) t)
+
+-- the bytes that are printed lie within the output
+pub printed-within : (s : Text) (r : Response) (room n : ℕ) → responseOf r ≡ value n → responseOf r ≡ lengthOf (printInto s room) → n ≤ room
+unfolding printInto textInto
+printed-within s r room n is e = within (ltb room (length (printed s))) (printed s) room n refl (sym is ∙ e)

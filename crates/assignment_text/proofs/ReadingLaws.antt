@@ -4,7 +4,7 @@ use mathlib.Core.Path.{_≡_, refl, sym, ap, subst, _∙_}
 use mathlib.Core.List.{List, [], _∷_, map}
 use native.Mathlib.Omega.{arith}
 use borrow.Author.Tests.{le-ltb}
-use lib.ListN.{length, take, drop}
+use lib.ListN.{length, take, length-map}
 use lib.Seq.{take-at}
 use Rattle.series_text.specs.Results.{Result, refused, value, _>>=_}
 use Rattle.series_text.specs.Text.{Text, Read, Terms, Position, Series, MOST, readPosition, readPositions, readHead, readText}
@@ -52,10 +52,6 @@ unfolding positionsOf
 positions-of [] = refl
 positions-of (p ∷ ps) = ap (p ∷_) (positions-of ps)
 
-length-map : {A : Type 0} (f : A → ℕ) (l : List A) → length (map f l) ≡ length l
-length-map f [] = refl
-length-map f (x ∷ l) = ap suc (length-map f l)
-
 -- the lists have lengths a and h
 module _ (s : Text) (a h : ℕ) (roomA : MOST ≤ a) (roomH : MOST ≤ h) where
   -- 4 is never met
@@ -92,7 +88,7 @@ module _ (s : Text) (a h : ℕ) (roomA : MOST ≤ a) (roomH : MOST ≤ h) where
           let terms : t ≡ x .terms = ap (λ (x : Handed). x .terms) both in
           let count : n ≡ length (x .positions) = ap (λ (x : Handed). x .positions) both in
           let accounts : take n A′ ≡ map (λ p. p .account) (x .positions)
-          = rw (eA, read-into (value x) f) (take-at (map (λ p. p .account) (x .positions)) _ n (length-map (λ p. p .account) (x .positions) ∙ sym count)) in
+          = rw (eA, read-into (value x) f) (take-at (map (λ p. p .account) (x .positions)) _ n (length-map (x .positions) (λ p. p .account) ∙ sym count)) in
           let shorts : take n H′ ≡ map (λ p. p .short) (x .positions)
-          = rw (eH, read-into (value x) f) (take-at (map (λ p. p .short) (x .positions)) _ n (length-map (λ p. p .short) (x .positions) ∙ sym count)) in
+          = rw (eH, read-into (value x) f) (take-at (map (λ p. p .short) (x .positions)) _ n (length-map (x .positions) (λ p. p .short) ∙ sym count)) in
           (omega (arith, few-positions s x f, count), f ∙ ap value (sym (rw (accounts, shorts, positions-of, terms))))

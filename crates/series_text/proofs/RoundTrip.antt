@@ -101,7 +101,7 @@ positions-back (suc k) (p ∷ ps) le fits =
 
 -- ---- the length of a text that can be written
 
-lines-few : (ps : List Position) → length (writePositions ps) ≤ 22 * length ps
+pub lines-few : (ps : List Position) → length (writePositions ps) ≤ 22 * length ps
 unfolding writePositions
 lines-few [] = omega arith
 lines-few (p ∷ ps) = omega (arith, length-append (writePosition p) (writePositions ps), length-line p, digits-few (p .account), digits-few (p .short), lines-few ps)

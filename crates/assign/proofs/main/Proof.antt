@@ -1,29 +1,40 @@
-use borrow.Author.Needs.{needs}
+-- `main` is safe: the bytes that are answered lie within the input's buffer. Assumes nothing.
+use Prim.Native.Nat.{_≤_}
 use mathlib.Core.Path.{sym, subst}
+use native.Mathlib.Omega.{arith}
 use lib.ListN.{length}
 use lib.Seq.{length-take-le}
-use Rattle.assign.specs.Input.{Within}
+use Rattle.assign.specs.Inputs.{Within}
+use borrow.Author.Needs.{needs}
 use Rattle.assign.proofs.main.Statement.{statement}
 use Rattle.assign.proofs.main.Tie as tie
 
-slice-aggregate-read-all : tie.Need-slice-aggregate-read-all
-slice-aggregate-read-all c = search needs
+fits : (c : tie.After-known-told) → c .before .n .given .0 .0 ≤ length (c .before .before .before .before .read-input .last .0)
+fits c = omega (arith, subst (λ r. Within r (length (c .before .before .before .before .before .before .before .input-buffer .result))) (c .before .n .given .1) (c .before .before .before .before .read-input .ensures), c .before .before .before .before .read-input .kept .0)
 
-read-all-requires : tie.Need-read-all-requires
-read-all-requires c κs = search needs
+input-buffer-requires : tie.Need-input-buffer-requires
+input-buffer-requires c κs = search needs
+
+output-buffer-requires : tie.Need-output-buffer-requires
+output-buffer-requires c κs = search needs
+
+slice-aggregate-read-input : tie.Need-slice-aggregate-read-input
+slice-aggregate-read-input c = search needs
+
+read-input-requires : tie.Need-read-input-requires
+read-input-requires c κs = search needs
 
 enum-known-n : tie.Need-enum-known-n
 enum-known-n c = search needs
 
-array-share-prefix-text : tie.Need-array-share-prefix-text
-array-share-prefix-text c =
-    let read = c .before .before .before .before .read-all in
-    subst (Within (length (read .last .0))) (c .before .n .given .1) (read .ensures) .1
+array-share-prefix-input : tie.Need-array-share-prefix-input
+array-share-prefix-input c = fits c
 
 slice-aggregate-answer : tie.Need-slice-aggregate-answer
-slice-aggregate-answer c =
-    let read = c .before .before .before .before .before .read-all in
-    sym (length-take-le (c .before .before .n .given .0 .0) (read .last .0) (subst (Within (length (read .last .0))) (c .before .before .n .given .1) (read .ensures) .1))
+slice-aggregate-answer c = sym (length-take-le _ _ (fits (c .before)))
+
+slice-aggregate-answer-2 : tie.Need-slice-aggregate-answer-2
+slice-aggregate-answer-2 c = search needs
 
 answer-requires : tie.Need-answer-requires
 answer-requires c κs = search needs
@@ -31,23 +42,11 @@ answer-requires c κs = search needs
 enum-told : tie.Need-enum-told
 enum-told c = search needs
 
-array-share-prefix-text-2 : tie.Need-array-share-prefix-text-2
-array-share-prefix-text-2 c = search needs
+slice-aggregate-say : tie.Need-slice-aggregate-say
+slice-aggregate-say c = search needs
 
-slice-aggregate-answer-2 : tie.Need-slice-aggregate-answer-2
-slice-aggregate-answer-2 c = search needs
-
-answer-requires-2 : tie.Need-answer-requires-2
-answer-requires-2 c κs = search needs
-
-enum-told-2 : tie.Need-enum-told-2
-enum-told-2 c = search needs
-
-slice-aggregate-write-all : tie.Need-slice-aggregate-write-all
-slice-aggregate-write-all c = search needs
-
-write-all-requires : tie.Need-write-all-requires
-write-all-requires c κs = search needs
+say-requires : tie.Need-say-requires
+say-requires c κs = search needs
 
 returns : tie.Need-returns
 returns c = search needs
@@ -55,26 +54,21 @@ returns c = search needs
 returns-2 : tie.Need-returns-2
 returns-2 c = search needs
 
-returns-3 : tie.Need-returns-3
-returns-3 c = search needs
-
 pub main-spec : {M : Type 1} → statement M
 main-spec =
     tie.close
     (tie.spec
-    slice-aggregate-read-all
-    read-all-requires
+    input-buffer-requires
+    output-buffer-requires
+    slice-aggregate-read-input
+    read-input-requires
     enum-known-n
-    array-share-prefix-text
+    array-share-prefix-input
     slice-aggregate-answer
+    slice-aggregate-answer-2
     answer-requires
     enum-told
-    array-share-prefix-text-2
-    slice-aggregate-answer-2
-    answer-requires-2
-    enum-told-2
-    slice-aggregate-write-all
-    write-all-requires
+    slice-aggregate-say
+    say-requires
     returns
-    returns-2
-    returns-3)
+    returns-2)

@@ -1,9 +1,10 @@
 -- `print` meets its contract: the table that is written is what is printed for the allocation. Assumes nothing.
-use mathlib.Core.Path.{_≡_, refl}
+use mathlib.Core.Path.{_≡_, refl, ap, _∙_}
 use lib.ListN.{length}
 use Rattle.series.specs.Refusals.{accepted}
 use Rattle.series_text.specs.Ascii.{ascii}
 use Rattle.series_text.specs.Calls.{writingOf, lengthOf, textAfter}
+use Rattle.series_text.specs.Tables.{tableInto}
 use Rattle.assignment_text.specs.Printed.{assignedLines, textInto}
 use Rattle.assignment_text.specs.declared.Response.the-variants.{Assigned}
 use Rattle.assignment_text.proofs.PrintLaws.{table-is, print-short, print-all}
@@ -11,14 +12,17 @@ use borrow.Author.Needs.{needs}
 use Rattle.assignment_text.proofs.print.Statement.{statement}
 use Rattle.assignment_text.proofs.print.Tie as tie
 
+same : (c : tie.After-write-table) → tableInto (ascii "account,assigned\n") (c .before .before .before .before .before .before .args .accounts .now) (c .before .before .before .before .before .before .args .amounts .now) (length (c .before .before .before .before .before .before .args .output .now)) ≡ textInto (assignedLines (c .before .before .before .before .before .before .args .accounts .now) (c .before .before .before .before .before .before .args .amounts .now)) (length (c .before .before .before .before .before .before .args .output .now))
+same c = let s = c .before .before .before .before .before .before in table-is (s .args .accounts .now) (s .args .amounts .now) (length (s .args .output .now)) (s .pre .0) (s .pre .1)
+
 -- the table is written
 hands : (c : tie.After-write-table) → writingOf (c .write-table .result) ≡ lengthOf (textInto (assignedLines (c .before .before .before .before .before .before .args .accounts .now) (c .before .before .before .before .before .before .args .amounts .now)) (length (c .before .before .before .before .before .before .args .output .now)))
 unfolding ascii
-hands c = rw (table-is _ _ _ (c .before .before .before .before .before .before .pre .0) (c .before .before .before .before .before .before .pre .1)) at (c .write-table .ensures .0)
+hands c = c .write-table .ensures .0 ∙ ap lengthOf (same c)
 
 out : (c : tie.After-write-table) → c .write-table .last .1 .1 .1 .0 ≡ textAfter (textInto (assignedLines (c .before .before .before .before .before .before .args .accounts .now) (c .before .before .before .before .before .before .args .amounts .now)) (length (c .before .before .before .before .before .before .args .output .now))) (c .before .before .before .before .before .before .args .output .now)
 unfolding ascii
-out c = rw (table-is _ _ _ (c .before .before .before .before .before .before .pre .0) (c .before .before .before .before .before .before .pre .1)) at (c .write-table .ensures .1)
+out c = c .write-table .ensures .1 ∙ ap (λ w. textAfter w (c .before .before .before .before .before .before .args .output .now)) (same c)
 
 slice-aggregate-write-table : tie.Need-slice-aggregate-write-table
 slice-aggregate-write-table c = search needs

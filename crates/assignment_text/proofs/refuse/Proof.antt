@@ -1,11 +1,10 @@
 -- `refuse` meets its contract: the note that is written is what is printed for the refusal. Assumes nothing.
-use mathlib.Core.Path.{_≡_, refl, ap, _∙_}
+use mathlib.Core.Path.{_≡_, refl}
 use lib.ListN.{length}
 use Rattle.series.specs.Answers.{numberOf}
 use Rattle.series.specs.Refusals.{refused}
 use Rattle.series_text.specs.Ascii.{ascii}
 use Rattle.series_text.specs.Calls.{writingOf, lengthOf, textAfter}
-use Rattle.series_text.specs.Tables.{noteInto}
 use Rattle.assignment_text.specs.Printed.{refusedLines, textInto}
 use Rattle.assignment_text.specs.declared.Response.the-variants.{Refused}
 use Rattle.assignment_text.proofs.PrintLaws.{note-is, print-short, print-all}

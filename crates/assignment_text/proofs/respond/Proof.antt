@@ -5,7 +5,7 @@ use native.Mathlib.Omega.{arith}
 use lib.ListN.{length, take}
 use lib.Seq.{length-take-le}
 use Rattle.series_text.specs.Results.{value}
-use Rattle.series_text.specs.Text.{Terms, MOST, readText}
+use Rattle.series_text.specs.Text.{MOST, readText}
 use Rattle.series_text.specs.Calls.{readingOf}
 use Rattle.assignment_text.specs.Printed.{seriesOf}
 use Rattle.assignment_text.proofs.ReadingLaws.{read-refused, read-series}

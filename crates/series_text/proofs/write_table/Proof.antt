@@ -1,7 +1,6 @@
 -- `write_table` meets its contract: the length is known before a byte is put, and the lines are put one after the other.
 -- Assumes nothing.
 use Prim.Native.Nat.{_≤_}
-use mathlib.Core.Path.{_≡_}
 use native.Mathlib.Omega.{arith}
 use lib.ListN.{length}
 use Rattle.series_text.specs.Tables.{tableText}
