@@ -102,13 +102,24 @@ boundaries =
     series Wheel M-shorts 37 36 ∷
     []
 
-pub answeredOf : Series → Outcome
-unfolding resultOf
-answeredOf s = resultOf s .answered
+-- a refusal with its number, the whole output kept
+abbrev turnedAway : ℕ → Result
+turnedAway n = record { answered = refusal n; written = replicate 6 7 }
 
 -- the starting places 1 and 2; allocated and 9; allocated, and 10 twice
-pub boundaries-known : map answeredOf boundaries ≡ allocation 3 1 ∷ allocation 3 2 ∷ allocation 36 1 ∷ refusal 9 ∷ allocation 36 0 ∷ refusal 9 ∷ allocation 36 0 ∷ refusal 10 ∷ refusal 10 ∷ refusal 9 ∷ []
-unfolding answeredOf boundaries
+pub boundaries-known : map resultOf boundaries ≡
+    allocated 3 1 (1 ∷ 0 ∷ 0 ∷ []) ∷
+    allocated 3 2 (0 ∷ 1 ∷ 0 ∷ []) ∷
+    allocated 36 1 M-shorts ∷
+    turnedAway 9 ∷
+    allocated 36 0 M-shorts ∷
+    turnedAway 9 ∷
+    allocated 36 0 M-shorts ∷
+    turnedAway 10 ∷
+    turnedAway 10 ∷
+    turnedAway 9 ∷
+    []
+unfolding resultOf boundaries
 boundaries-known = refl
 
 -- the places a, a + 1, .., e
