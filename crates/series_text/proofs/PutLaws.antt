@@ -1,17 +1,17 @@
 -- Laws of bytes that are put into a text.
-use Prim.Native.Nat.{ℕ, suc, _+_, _/_, _%_, _≤_, _<_}
+use Prim.Native.Nat.{ℕ, suc, _+_, _-_, _/_, _%_, _≤_, _<_}
 use mathlib.Core.Path.{_≡_, refl, sym, ap, _∙_}
 use mathlib.Core.List.{List, [], _∷_, _++_, append-assoc, append-nil}
 use native.Mathlib.Omega.{arith}
 use native.Mathlib.Nat.{zero-add, add-zero}
 use native.Mathlib.Numerals.{add-one}
 use lib.ListN.{length, getD, take, drop, set, length-append, length-drop, length-set, take-append-drop}
-use lib.Seq.{paste, take-length, drop-length, take-suc, drop-drop, take-paste, drop-paste, length-paste, set-split, set-at, length-take-le, append-snoc}
+use lib.Seq.{paste, take-all, take-length, drop-length, take-suc, drop-drop, take-paste, drop-paste, length-paste, set-split, set-at, length-take-le, append-snoc}
+use borrow.Rule.Slice.PartMut.{putMid, postOf}
 use Rattle.series_text.specs.Calls.{onto, positionsOf}
 use Rattle.series_text.specs.Parts.{placed, Put}
 use Rattle.series_text.specs.Numbers.{decimal}
 use Rattle.series_text.specs.Text.{COMMA, NEWLINE, Terms, Position, letter, writeNumber, writeTerms, writePosition, writePositions}
-use Rattle.series_text.proofs.CopyLaws.{CopiedTo}
 use Rattle.series_text.proofs.DecimalLaws.{LeftOf, left-start, left-digit, left-more}
 use Rattle.series_text.proofs.PositionLaws.{firstLines, lineAt, first-more, first-within}
 
@@ -26,6 +26,20 @@ length-placed vs at old fits = rw placed-paste (length-paste old at vs (length v
 pub placed-nil : (at : ℕ) (old : List ℕ) → placed [] at old ≡ old
 unfolding placed
 placed-nil at old = rw (add-zero, append-nil) (take-append-drop at old)
+
+-- bytes that are copied to the part of a text from an index on
+pub put-part : (line old part : List ℕ) (at n : ℕ) → n ≡ length line → at + length line ≤ length old → part ≡ take (length line) line ++ drop (length line) (take (length old - at) (drop at old)) → Put line old at (putMid at (length old - at) old part) (at + n)
+unfolding placed
+put-part line old part at n en fits e =
+    let whole : take (length old - at) (drop at old) ≡ drop at old = take-all (length old - at) (drop at old) (omega (arith, length-drop at old)) in
+    let end : at + (length old - at) ≡ length old = omega arith in
+    let none : postOf at (length old - at) old ≡ [] = drop-drop (length old - at) at old ∙ ap (λ k. drop k old) end ∙ drop-length old in
+    let rest : drop (length line) (drop at old) ≡ drop (at + length line) old = drop-drop (length line) at old in
+    let put : part ≡ line ++ drop (at + length line) old = e ∙ ap (λ zs. take (length line) line ++ drop (length line) zs) whole ∙ ap (take (length line) line ++_) rest ∙ ap (_++ drop (at + length line) old) (take-length line) in
+    record {
+      text = ap (λ zs. take at old ++ (part ++ zs)) none ∙ ap (take at old ++_) (append-nil part ∙ put) ∙ sym (append-assoc (take at old) line (drop (at + length line) old));
+      after = ap (at +_) en;
+    }
 
 -- bytes that are put at the start
 pub placed-onto : (vs old : List ℕ) → placed vs 0 old ≡ onto vs old
@@ -90,10 +104,6 @@ put-nil old at = record { text = sym (placed-nil at old); after = omega arith }
 
 pub put-byte : (b : ℕ) (old : List ℕ) (at : ℕ) → at < length old → Put (b ∷ []) old at (set old at b) (at + 1)
 put-byte b old at lt = record { text = placed-byte b at old lt; after = refl }
-
--- a copy of a whole line
-pub put-copied : (vs old : List ℕ) (at n : ℕ) (new : List ℕ) → n ≡ length vs → CopiedTo vs old at n new → Put vs old at new (at + n)
-put-copied vs old at n new is so = record { text = rw (so .list, is, placed-paste vs at old); after = rw is }
 
 -- ---- the digits of a number, from the last to the first
 

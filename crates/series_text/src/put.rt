@@ -70,12 +70,7 @@ pub fn put_line(text: &mut [u8], at: usize, line: &[u8]) -> usize
     requires { ⌜ at + length (now line) ≤ length (now text) ⌝ }
     ensures { λ r. ⌜ Put (now (line .entry)) (now (text .entry)) at (now (text .exit)) r ⌝ }
 {
-    let mut i = 0;
-    while i < line.len() {
-        text[at + i] = line[i];
-        i += 1;
-    }
-    at + i
+    at + bytes::copy(line, &mut text[at..])
 }
 
 // Puts a number, from its last digit to its first, and the byte that ends its field.
