@@ -10,6 +10,7 @@ use lib.Seq.{getD-drop, ext-getD, drop-cons, set-split}
 use borrow.Rule.Slice.PartMut.{putMid}
 use Rattle.series.specs.Places.{total, before, last, steps, run, marked, amounts, OnWheel}
 use Rattle.series.specs.Lottery.{lottery}
+use Rattle.series.proofs.SumLaws.{total-term}
 use Rattle.series.proofs.PlaceLaws.{steps-plain, steps-past, before-all, last-total, amount-at, length-amounts, run-plain, run-past, upFrom, marked-append, marked-upFrom}
 use Rattle.allocation.specs.Stretch.{overlap, Ends, Grown, OnList, Stands, Assigned, Small, Listed, Room, placeOf}
 use Rattle.allocation.proofs.StretchLaws.{last-is, Walk, walk-start, walk-inside, Growing, growing-start, grown-inside}
@@ -105,9 +106,6 @@ stands-first hs place i p l on e =
     let in-list : i < length hs = ends-inside hs (0 + (place - 1)) i p l e (omega (arith, on .low, on .high)) in
     record { on = record { position = in-list; contract = e .inside in-list .0 }; place = omega (arith, e .reached, e .inside in-list .1, on .low) }
 
-pub position-most : (hs : List ℕ) (j : ℕ) → j < length hs → getD hs j 0 ≤ total hs
-position-most hs j h = omega (arith, last-is hs j, last-total hs j h)
-
 -- the part of the amounts has room for the part of the list
 pub room-part : (hs out : List ℕ) (a : ℕ) → Small hs out → a ≤ length hs → Room (take (length hs - a) (drop a hs)) (take (length out - a) (drop a out))
 room-part hs out a s h =
@@ -116,7 +114,7 @@ room-part hs out a s h =
       lengths = omega (arith, length-drop a hs, length-drop a out, s .lengths);
       room = λ j k.
           let inside : a + j < length hs = omega (arith, length-drop a hs) in
-          omega (arith, getD-drop a hs j 0, getD-drop a out j 0, s .amounts (a + j) inside, position-most hs (a + j) inside, s .list);
+          omega (arith, getD-drop a hs j 0, getD-drop a out j 0, s .amounts (a + j) inside, total-term hs (a + j) inside, s .list);
     })
 
 overlap-most : (b h lo hi : ℕ) → overlap b (b + h) lo hi ≤ h
@@ -129,7 +127,7 @@ unfolding last
 room-again hs out mid lo hi s g =
     record {
       lengths = omega (arith, g .same-length, s .lengths);
-      room = λ j k. omega (arith, g .grown j k, s .amounts j k, position-most hs j k, s .list, overlap-most (before hs j) (getD hs j 0) lo hi);
+      room = λ j k. omega (arith, g .grown j k, s .amounts j k, total-term hs j k, s .list, overlap-most (before hs j) (getD hs j 0) lo hi);
     }
 
 -- what the part's amounts grew by, said of all amounts with the part put back

@@ -12,7 +12,7 @@ use lib.Seq.{take-length}
 use borrow.Author.Tests.{lt-ltb, le-ltb, le-leb, lt-leb, eq-eqb, ne-eqb}
 use Rattle.series.specs.Sums.{sumBelow, bit}
 use Rattle.series.specs.Places.{total, next, steps, run, within, marked, before, last, amounts, OnWheel, overPlaces}
-use Rattle.series.proofs.SumLaws.{sum-cong, sum-add, sum-const, sum-head, length-listed, getD-listed, total-listed}
+use Rattle.series.proofs.SumLaws.{sum-cong, sum-add, sum-const, sum-head, length-listed, getD-listed, total-listed, sum-first, bit-le}
 
 pub next-last : (T : ℕ) → next T T ≡ 1
 unfolding next
@@ -95,11 +95,6 @@ unfolding run upFrom placesAt
 run-places T zero a p = refl
 run-places T (suc n) a p = ap (steps T a p ∷_) (ap (run T n) (sym (steps-suc T a p)) ∙ run-places T n (suc a) p)
 
-bit-most : (t : Bool) → bit t ≤ 1
-unfolding bit
-bit-most true = omega arith
-bit-most false = omega arith
-
 pub within-yes : (b e m : ℕ) → b < m → m ≤ e → bit (within b e m) ≡ 1
 unfolding within bit
 within-yes b e m h k = rw (lt-ltb b m h, le-leb m e k)
@@ -175,7 +170,7 @@ marked-append b e (x ∷ xs) ys = omega (arith, marked-append b e xs ys)
 pub marked-length : (b e : ℕ) (ms : List ℕ) → marked b e ms ≤ length ms
 unfolding marked
 marked-length b e [] = omega arith
-marked-length b e (m ∷ ms) = omega (arith, marked-length b e ms, bit-most (within b e m))
+marked-length b e (m ∷ ms) = omega (arith, marked-length b e ms, bit-le (within b e m))
 
 pub marked-none : (b : ℕ) (ms : List ℕ) → marked b b ms ≡ 0
 marked-none b ms = omega (arith, marked-split b b b ms (le-refl b) (le-refl b))
@@ -328,17 +323,6 @@ unfolding Rising
 rising-more a c [] n l h = omega arith
 rising-more a c (o ∷ os) n l h = (omega (arith, h .0), h .1)
 
-rising-end : (a : ℕ) (os : List ℕ) (n : ℕ) → Rising a os n → a ≤ n
-unfolding Rising
-rising-end a [] n h = h
-rising-end a (o ∷ os) n h = omega (arith, h .0, rising-end (suc o) os n (h .1))
-
-sum-longer : (f : ℕ → ℕ) (a c : ℕ) → a ≤ c → sumBelow f a ≤ sumBelow f c
-unfolding sumBelow
-sum-longer f a zero h = let e : a ≡ 0 = omega arith in omega (arith, ap (sumBelow f) e)
-sum-longer f a (suc c) h =
-    elim (decLe a c) [ yes l ↦ omega (arith, sum-longer f a c l) | no g ↦ let e : a ≡ suc c = omega arith in omega (arith, ap (sumBelow f) e) ]
-
 -- offsets 0 to T - 1 from the next place mark what they mark from this one
 around-next : (T p : ℕ) (f : ℕ → ℕ) → OnWheel T p → sumBelow (λ o. f (steps T o (next T p))) T ≡ sumBelow (λ o. f (steps T o p)) T
 unfolding sumBelow steps
@@ -358,9 +342,9 @@ around T (suc n) f h =
 -- marks at rising offsets are among those at all offsets
 marked-rising : (T b e a p : ℕ) (os : List ℕ) → Rising a os T → sumBelow (λ o. bit (within b e (steps T o p))) a + marked b e (placesAt T os p) ≤ sumBelow (λ o. bit (within b e (steps T o p))) T
 unfolding Rising marked placesAt sumBelow
-marked-rising T b e a p [] h = omega (arith, sum-longer (λ o. bit (within b e (steps T o p))) a T h)
+marked-rising T b e a p [] h = omega (arith, sum-first (λ o. bit (within b e (steps T o p))) a T h)
 marked-rising T b e a p (o ∷ os) h =
-    omega (arith, marked-rising T b e (suc o) p os (h .1), sum-longer (λ q. bit (within b e (steps T q p))) a o (h .0))
+    omega (arith, marked-rising T b e (suc o) p os (h .1), sum-first (λ q. bit (within b e (steps T q p))) a o (h .0))
 
 pub marked-most : (T b e p : ℕ) (os : List ℕ) → OnWheel T p → Rising 0 os T → b ≤ e → e ≤ T → marked b e (placesAt T os p) ≤ e - b
 unfolding sumBelow

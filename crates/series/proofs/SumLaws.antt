@@ -52,12 +52,6 @@ sum-term f zero i h = omega arith
 sum-term f (suc n) i h =
     elim (decLt i n) [ yes l ↦ omega (arith, sum-term f n i l) | no g ↦ let e : i ≡ n = omega arith in omega (arith, ap f e) ]
 
--- the order of two sums may be changed
-pub sum-swap : (f : ℕ → ℕ → ℕ) (n m : ℕ) → sumBelow (λ i. sumBelow (f i) m) n ≡ sumBelow (λ j. sumBelow (λ i. f i j) n) m
-unfolding sumBelow
-sum-swap f zero m = sym (sum-const 0 m ∙ mul-zero m)
-sum-swap f (suc n) m = ap (_+ sumBelow (f n) m) (sum-swap f n m) ∙ sym (sum-add (λ j. sumBelow (λ i. f i j) n) (f n) m)
-
 pub length-listed : (f : ℕ → ℕ) (n : ℕ) → length (listed f n) ≡ n
 unfolding listed
 length-listed f zero = refl

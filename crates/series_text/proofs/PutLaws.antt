@@ -95,10 +95,6 @@ put-append vs ws old at mid new i j fits p q =
       after = rw (q .after, p .after, length-append) (omega arith);
     }
 
--- a text that has bytes put into it keeps its length
-pub put-length : (vs old : List ℕ) (at : ℕ) (new : List ℕ) (i : ℕ) → at + length vs ≤ length old → Put vs old at new i → length new ≡ length old
-put-length vs old at new i fits p = rw (p .text) (length-placed vs at old fits)
-
 pub put-nil : (old : List ℕ) (at : ℕ) → Put [] old at old at
 put-nil old at = record { text = sym (placed-nil at old); after = omega arith }
 

@@ -55,6 +55,19 @@ fn judge(method: u8, accounts: &[u32], shorts: &[u32], exercised: u32, draw: u32
     Ok(sum)
 }
 
+/// The amounts by `assign` of a call that is not turned away: T and the further number, or a refusal.
+fn judged(
+    method: u8,
+    (accounts, shorts): (&[u32], &[u32]),
+    exercised: u32,
+    draw: u32,
+    amounts: &mut [u32],
+    assign: impl FnOnce(&[u32], u32, u32, u32, &mut [u32]) -> u32,
+) -> Result<(u32, u32), u32> {
+    let total = judge(method, accounts, shorts, exercised, draw, amounts.len())?;
+    Ok((total, assign(shorts, total, exercised, draw, &mut amounts[..shorts.len()])))
+}
+
 /// T and the further number, or a refusal.
 pub fn allocate(
     method: u8,
@@ -64,14 +77,12 @@ pub fn allocate(
     draw: u32,
     amounts: &mut [u32],
 ) -> Result<(u32, u32), u32> {
-    let total = judge(method, accounts, shorts, exercised, draw, amounts.len())?;
-    let amounts = &mut amounts[..shorts.len()];
-    let further = match method {
-        b'W' => wheel(shorts, total, exercised, draw, amounts),
-        b'P' => pro_rata(shorts, total, exercised, draw, amounts),
-        _ => starting_number(shorts, total, exercised, draw, amounts),
-    };
-    Ok((total, further))
+    let list = (accounts, shorts);
+    match method {
+        b'W' => judged(method, list, exercised, draw, amounts, wheel),
+        b'P' => judged(method, list, exercised, draw, amounts, pro_rata),
+        _ => judged(method, list, exercised, draw, amounts, starting_number),
+    }
 }
 
 /// As `allocate` for the wheel, with one division for each position and no walk over the blocks.
@@ -82,9 +93,7 @@ pub fn allocate_wheel_by_division(
     draw: u32,
     amounts: &mut [u32],
 ) -> Result<(u32, u32), u32> {
-    let total = judge(b'W', accounts, shorts, exercised, draw, amounts.len())?;
-    let amounts = &mut amounts[..shorts.len()];
-    Ok((total, wheel_by_division(shorts, total, exercised, draw, amounts)))
+    judged(b'W', (accounts, shorts), exercised, draw, amounts, wheel_by_division)
 }
 
 /// As `allocate` for pro rata, with the cut-off found as the library finds it: by bisection, a count over the decimal
@@ -96,9 +105,7 @@ pub fn allocate_pro_rata_by_bisection(
     draw: u32,
     amounts: &mut [u32],
 ) -> Result<(u32, u32), u32> {
-    let total = judge(b'P', accounts, shorts, exercised, draw, amounts.len())?;
-    let amounts = &mut amounts[..shorts.len()];
-    Ok((total, pro_rata_by_bisection(shorts, total, exercised, draw, amounts)))
+    judged(b'P', (accounts, shorts), exercised, draw, amounts, pro_rata_by_bisection)
 }
 
 fn interval(total: u32, blocks: u32) -> u64 {

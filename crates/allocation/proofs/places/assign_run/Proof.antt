@@ -1,6 +1,7 @@
 use borrow.Author.Needs.{needs}
 use native.Mathlib.Omega.{arith}
-use Rattle.allocation.proofs.RunLaws.{position-most, stands-own, assigned-own}
+use Rattle.series.proofs.SumLaws.{total-term}
+use Rattle.allocation.proofs.RunLaws.{stands-own, assigned-own}
 use Rattle.allocation.proofs.places.assign_run.Statement.{statement}
 use Rattle.allocation.proofs.places.assign_run.Tie as tie
 
@@ -24,7 +25,7 @@ add-amounts c =
     let start = c .before .before .before .before .before .before .before .before .before in
     let a = start .args in
     let on = start .pre .1 .0 in
-    omega (arith, c .before .before .if1 .taken, start .pre .0 .amounts (a .cursor .at) (on .position), start .pre .0 .list, position-most (a .shorts .now) (a .cursor .at) (on .position))
+    omega (arith, c .before .before .if1 .taken, start .pre .0 .amounts (a .cursor .at) (on .position), start .pre .0 .list, total-term (a .shorts .now) (a .cursor .at) (on .position))
 
 slice-write-amounts : tie.Need-slice-write-amounts
 slice-write-amounts c = search needs
@@ -34,7 +35,7 @@ add-t14 c =
     let start = c .before .before .before .before .before .before .before .before .before .before .before in
     let a = start .args in
     let on = start .pre .1 .0 in
-    omega (arith, c .before .before .before .before .if1 .taken, on .contract, start .pre .0 .list, position-most (a .shorts .now) (a .cursor .at) (on .position))
+    omega (arith, c .before .before .before .before .if1 .taken, on .contract, start .pre .0 .list, total-term (a .shorts .now) (a .cursor .at) (on .position))
 
 same-length : tie.Need-same-length
 same-length c = search needs
