@@ -1,23 +1,24 @@
 /*
  * Dilbreth: exercise assignment of option contracts.
  *
- * Each function answers 0, or the number of the refusal that it met:
+ * Each function but dilbreth_explain answers 0, or the number of the refusal that
+ * it met:
  *
  *    1  accounts and shorts differ in length
- *    2  more than 4,096 positions
- *    3  no positions
+ *    2  there are more than 4,096 positions
+ *    3  there are no positions
  *    4  an output is too short
- *    5  an account is 0 or not above the one before
- *    6  a position has 0 shorts
- *    7  the shorts add up to more than 10,000,000
- *    8  0 contracts are exercised
- *    9  more contracts are exercised than there are shorts
- *   10  the draw is outside 1 to T (method W) or 1 to 10,000 (method L)
- *   11  a text of more than 32,768 bytes
- *   12  line 1 or line 3 of a text is missing or not exact
- *   13  a line of a text has other fields than it should, a malformed number or no byte 10
- *   14  the method is unknown
- *   15  more than 1,024 positions in a text
+ *    5  an account is 0 or not above the one before it
+ *    6  a position has no short contracts
+ *    7  the positions hold more than 10,000,000 contracts
+ *    8  no contract is exercised
+ *    9  more is exercised than the positions hold
+ *   10  the draw is outside 1 to T (W) or 1 to 10,000 (L)
+ *   11  the text has more than 32,768 bytes
+ *   12  line 1 or line 3 is missing or not exact
+ *   13  line 2 or a position line is malformed
+ *   14  the method is not W, P or L
+ *   15  there are more than 1,024 positions in a text
  *
  * On a refusal nothing else is written: every list, every byte of a text and
  * every number behind a pointer is as it was before the call.
@@ -37,10 +38,13 @@
 extern "C" {
 #endif
 
+/* Raised where a signature or a constant changes; 1 was the first delivery's. */
+#define DILBRETH_VERSION 2
+
 /* The methods. */
 #define DILBRETH_WHEEL ((uint8_t)'W')
 #define DILBRETH_PRO_RATA ((uint8_t)'P')
-#define DILBRETH_STARTING_NUMBER ((uint8_t)'L')
+#define DILBRETH_LOTTERY ((uint8_t)'L')
 
 /*
  * Assigns the exercised contracts of one series to its short positions.
@@ -128,6 +132,22 @@ uint32_t dilbreth_write(uint8_t method, uint32_t exercised, uint32_t draw,
 uint32_t dilbreth_respond(const uint8_t *text, size_t text_len,
                           uint8_t *output, size_t output_len,
                           size_t *written);
+
+/* The length of the longest line of dilbreth_explain. */
+#define DILBRETH_LONGEST_EXPLANATION 50
+
+/*
+ * The words for the number of a refusal, as in the table above: answers the length
+ * of a line that ends with byte 10, and writes the line where it fits. A number that
+ * is no refusal's has a line that says so. A length above line_len tells that nothing
+ * was written.
+ *
+ * number        the number
+ * line          receives the line, which no byte 0 ends; a shorter line keeps its
+ *               bytes, and bytes past what is written are kept
+ * line_len      the length of line
+ */
+size_t dilbreth_explain(uint32_t number, uint8_t *line, size_t line_len);
 
 #ifdef __cplusplus
 }

@@ -1,5 +1,5 @@
 #!/usr/bin/env bash
-# The Rust tests and the C test against the archive and the program.
+# The Rust tests, the C test and, where fpc is installed, the Pascal test, against the archive and the program.
 # DILBRETH_LIB: the folder of libdilbreth.a (target/staticlib of the repository).
 # DILBRETH_ASSIGN: the program (target/bin/assign of the repository).
 # DILBRETH_BUILD: where to build (build of the repository).
@@ -35,11 +35,21 @@ if [ "$passed" -eq 0 ] && [ "$failed" -eq 0 ]; then
     failed=1
 fi
 
-if bash "$here/c/run.sh"; then
-    passed=$((passed + 1))
+# A test program is one check.
+program_test() {
+    if bash "$1"; then
+        passed=$((passed + 1))
+    else
+        failed=$((failed + 1))
+    fi
+}
+
+program_test "$here/c/run.sh"
+if command -v fpc >/dev/null; then
+    program_test "$here/pascal/run.sh"
 else
-    failed=$((failed + 1))
+    echo "Pascal: skipped, fpc is not installed"
 fi
 
-echo "rust and C: $passed passed, $failed failed"
+echo "Rust, C and Pascal: $passed passed, $failed failed"
 [ "$failed" -eq 0 ]

@@ -1,4 +1,4 @@
-/* The archive and its header, from C: case M, starred series, a refusal of each call. */
+/* The archive and its header, from C: case M, starred series, a refusal of each call, the words for a refusal. */
 #include <inttypes.h>
 #include <stdio.h>
 #include <string.h>
@@ -34,8 +34,8 @@ static const struct series KNOWN[] = {
     {"G", DILBRETH_PRO_RATA, 1, {3}, 1, 0, {1}, 3, 1},
     {"H", DILBRETH_PRO_RATA, 3, {1, 1, 1}, 1, 5, {0, 0, 1}, 3, 1},
     {"K", DILBRETH_PRO_RATA, 3, {3, 1, 2}, 2, 0, {1, 0, 1}, 6, 2},
-    {"M", DILBRETH_STARTING_NUMBER, 5, {5, 8, 2, 10, 11}, 13, 4855, {0, 0, 0, 8, 5}, 36, 18},
-    {"N", DILBRETH_STARTING_NUMBER, 5, {5, 8, 2, 10, 11}, 2, 10000, {1, 0, 0, 0, 1}, 36, 36},
+    {"M", DILBRETH_LOTTERY, 5, {5, 8, 2, 10, 11}, 13, 4855, {0, 0, 0, 8, 5}, 36, 18},
+    {"N", DILBRETH_LOTTERY, 5, {5, 8, 2, 10, 11}, 2, 10000, {1, 0, 0, 0, 1}, 36, 36},
 };
 
 static void known(const struct series *s)
@@ -113,6 +113,23 @@ static void refusals(void)
                                                     written == 11 && memcmp(bytes + 1, "refused\n12\n", 11) == 0);
 }
 
+static void words(void)
+{
+    static const char NINE[] = "more is exercised than the positions hold\n", NONE[] = "no refusal has this number\n";
+    const size_t length = sizeof NINE - 1;
+    uint8_t line[DILBRETH_LONGEST_EXPLANATION + 1], before[sizeof line];
+
+    memset(line, 0xEE, sizeof line);
+    memset(before, 0xEE, sizeof before);
+    see("explain a short line", dilbreth_explain(9, line, length - 1) == length && memcmp(line, before, sizeof line) == 0);
+    see("explain 9", dilbreth_explain(9, line, length) == length && memcmp(line, NINE, length) == 0 &&
+                         line[length] == 0xEE);
+    see("explain a number of no refusal",
+        dilbreth_explain(0, line, sizeof line) == sizeof NONE - 1 && memcmp(line, NONE, sizeof NONE - 1) == 0 &&
+            line[sizeof NONE - 1] == (uint8_t)NINE[sizeof NONE - 1]);
+    see("the longest line", dilbreth_explain(10, line, sizeof line) == DILBRETH_LONGEST_EXPLANATION);
+}
+
 int main(void)
 {
     size_t i;
@@ -121,6 +138,7 @@ int main(void)
         known(&KNOWN[i]);
     case_m();
     refusals();
+    words();
     printf("C: %d wrong\n", wrong);
     return wrong != 0;
 }

@@ -1,104 +1,64 @@
--- What the methods ask of a judged series, and what their answers come to.
+-- What the wheel and the starting number ask of a judged series, and what their answers come to.
 use Prim.Native.Nat.{ℕ, _≤_, _<_}
-use mathlib.Core.Path.{_≡_, refl, sym, ap, subst, _∙_}
-use mathlib.Core.List.{List, _++_}
+use mathlib.Core.Path.{_≡_, ap, ap₂, _∙_}
+use mathlib.Core.List.{List}
 use native.Mathlib.Omega.{arith}
-use lib.ListN.{length, take, drop}
-use lib.Seq.{length-take-le}
+use Rattle.series.specs.Results.{Result, value}
 use Rattle.series.specs.Places.{total, OnWheel}
+use Rattle.series.specs.Series.{MOST_CONTRACTS}
 use Rattle.series.specs.Wheel.{wheel, blocksUsed}
-use Rattle.series.specs.ProRata.{proRata, remainder}
 use Rattle.series.specs.Lottery.{lottery, startingPlace}
-use Rattle.series.specs.Refusals.{Verdict, accepted, refused, first, drawRows, verdict}
-use Rattle.series.specs.Answers.{Outcome, allocation, refusal}
-use Rattle.series.specs.Call.{assigned, further, answerTo, outputTo, answer, output}
-use Rattle.series.specs.Fair.{FairOutput}
+use Rattle.series.specs.Refusals.{NoneApplies, drawRows}
+use Rattle.series.specs.Answers.{Allocation}
+use Rattle.series.specs.Call.{INCREMENT, assigned, further}
 use Rattle.series.specs.declared.Method.{Method}
-use Rattle.series.specs.declared.Method.the-variants.{Wheel, ProRata, Lottery}
-use Rattle.series.proofs.AcceptedLaws.{Facts, accepted-facts, verdict-accepted}
-use Rattle.series.proofs.CallLaws.{verdict-room, draw-passes, wheel-draw, lottery-draw, starting-on}
-use Rattle.series.proofs.Demand3.{call-fair}
-use Rattle.allocation.specs.Stretch.{Listed}
-use Rattle.allocation.specs.Turn.{Increment}
-use Rattle.allocation.specs.ProRata.{JudgedSeries}
+use Rattle.series.specs.declared.Terms.{Terms}
+use Rattle.series.proofs.CallLaws.{wheel-draw, lottery-draw, starting-on}
+use Rattle.allocation.specs.Stretch.{Sized}
+use Rattle.allocation.specs.Blocks.{Increment, WheelCall}
+use Rattle.allocation.specs.Lottery.{LotteryCall}
+use Rattle.judging.specs.Judged.{JudgedSeries}
+use Rattle.judging.specs.Assigning.{Assigns}
 
-module _ (m : Method) (hs out : List ℕ) (T S draw : ℕ) (judged : JudgedSeries hs T S out) (drawn : accepted ≡ first (drawRows m T draw)) where
-  is-listed : Listed hs out
-  is-listed = record { lengths = judged .room; list = omega (arith, judged .sum, judged .small) }
+-- an allocation by a method, with T and the further number
+abbrev answered-by : Method → ℕ → ℕ → Result Allocation
+answered-by m T f = value (record { method = m; total = T; further = f })
 
-  pub wheel-asks : m ≡ Wheel → Listed hs out × ((T ≡ total hs) × ((S ≤ T) × (Increment 25 S × OnWheel T draw)))
-  wheel-asks e = (
-    is-listed,
-    (
-      judged .sum,
-      (
-        judged .most,
-        (
-          record { some = omega arith; most = omega arith; exercised-some = judged .some; exercised-most = omega (arith, judged .most, judged .small) },
-          wheel-draw T draw (sym (rw e at drawn)),
-        ),
-      ),
-    ),
-  )
+module _ (t : Terms) (hs out : List ℕ) (T : ℕ) (judged : JudgedSeries hs T (t .exercised .0) out) (drawn : NoneApplies (drawRows t T)) where
+  abbrev S : ℕ
+  S = t .exercised .0
 
-  lottery-drawn : m ≡ Lottery → OnWheel 10000 draw
-  lottery-drawn e = lottery-draw T draw (sym (rw e at drawn))
+  is-sized : Sized hs out
+  is-sized = record { lengths = judged .room; list = omega (arith, judged .sum, judged .small) }
 
-  pub start-asks : m ≡ Lottery → (T ≤ 10000000) × (draw ≤ 10000)
-  start-asks e = (judged .small, lottery-drawn e .high)
+  pub wheel-requires : t .method ≡ Method.Wheel → WheelCall hs out T S (t .draw) INCREMENT
+  wheel-requires e =
+      record {
+        sized = is-sized;
+        sum = judged .sum;
+        most = judged .most;
+        increment = record { some = omega arith; most = omega arith; exercised-some = judged .some; exercised-most = omega (arith, judged .most, judged .small) };
+        start = wheel-draw t T e drawn;
+      }
 
-  pub lottery-asks : m ≡ Lottery → (p : ℕ) → p ≡ startingPlace T draw → Listed hs out × ((S ≤ total hs) × OnWheel (total hs) p)
-  lottery-asks e p q =
-      let on : OnWheel T (startingPlace T draw) = starting-on T draw (omega (arith, judged .some, judged .most)) (lottery-drawn e) in
-      (is-listed, (omega (arith, judged .most, judged .sum), rw (q, ← judged .sum) on))
+  pub start-requires : t .method ≡ Method.Lottery → (T ≤ MOST_CONTRACTS) × (t .draw ≤ 10000)
+  start-requires e = (judged .small, lottery-draw t T e drawn .high)
 
-  pub wheel-gives : m ≡ Wheel → (b : ℕ) (vs : List ℕ) → b ≡ blocksUsed 25 T S → vs ≡ wheel 25 hs S draw → (allocation T b ≡ allocation T (further m hs S draw)) × (vs ≡ assigned m hs S draw)
+  pub lottery-requires : t .method ≡ Method.Lottery → (p : ℕ) → p ≡ startingPlace T (t .draw) → LotteryCall hs out S p
+  lottery-requires e p q =
+      let on : OnWheel T (startingPlace T (t .draw)) = starting-on T (t .draw) (omega (arith, judged .some, judged .most)) (lottery-draw t T e drawn) in
+      record { sized = is-sized; most = omega (arith, judged .most, judged .sum); start = rw (q, ← judged .sum) on }
+
+  pub wheel-gives : t .method ≡ Method.Wheel → (b : ℕ) (vs : List ℕ) → b ≡ blocksUsed INCREMENT T S → vs ≡ wheel INCREMENT hs S (t .draw) → Assigns t hs (answered-by Method.Wheel T b) vs
   unfolding further assigned
-  wheel-gives e b vs eb ev = rw e (ap (allocation T) (eb ∙ ap (λ t. blocksUsed 25 t S) (judged .sum)), ev)
+  wheel-gives e b vs eb ev =
+      record {
+        answered = λ accounts. rw e (ap₂ (answered-by Method.Wheel) (judged .sum) (eb ∙ ap (λ x. blocksUsed INCREMENT x S) (judged .sum)));
+        written = λ accounts. rw e ev;
+      }
 
-  pub pro-rata-gives : m ≡ ProRata → (r : ℕ) (vs : List ℕ) → r ≡ remainder hs S → vs ≡ proRata hs S draw → (allocation T r ≡ allocation T (further m hs S draw)) × (vs ≡ assigned m hs S draw)
-  unfolding further assigned
-  pro-rata-gives e r vs er ev = rw e (ap (allocation T) er, ev)
-
-  pub lottery-gives : m ≡ Lottery → (p : ℕ) (vs : List ℕ) → p ≡ startingPlace T draw → vs ≡ lottery hs S p → (allocation T p ≡ allocation T (further m hs S draw)) × (vs ≡ assigned m hs S draw)
+  pub lottery-gives : t .method ≡ Method.Lottery → (p : ℕ) (vs : List ℕ) → p ≡ startingPlace T (t .draw) → vs ≡ lottery hs S p → Assigns t hs (answered-by Method.Lottery T p) vs
   unfolding further assigned
   lottery-gives e p vs ep ev =
-      let q : p ≡ startingPlace (total hs) draw = ep ∙ ap (λ t. startingPlace t draw) (judged .sum) in
-      rw e (ap (allocation T) q, ev ∙ ap (lottery hs S) q)
-
--- the whole call
-module _ (m : Method) (accounts hs : List ℕ) (S draw : ℕ) (old : List ℕ) where
-  Promised : Outcome → List ℕ → Type 0
-  Promised o new = (o ≡ answer m accounts hs S draw (length old)) × ((new ≡ output m accounts hs S draw old) × FairOutput o m hs S new)
-
-  promised : (o : Outcome) (new : List ℕ) → o ≡ answer m accounts hs S draw (length old) → new ≡ output m accounts hs S draw old → Promised o new
-  unfolding Promised
-  promised o new eo en = (eo, (en, rw (eo, en) (call-fair m accounts hs S draw old)))
-
-  pub call-refused : (n : ℕ) → refused n ≡ verdict m accounts hs S draw (length old) → (refusal n ≡ answer m accounts hs S draw (length old)) × ((old ≡ output m accounts hs S draw old) × FairOutput (refusal n) m hs S old)
-  unfolding Promised answer answerTo output outputTo
-  call-refused n v = promised (refusal n) old (rw (← v)) (rw (← v))
-
-  module _ (v : accepted ≡ verdict m accounts hs S draw (length old)) (T : ℕ) (eT : T ≡ total hs) where
-    facts : Facts accounts hs S
-    facts = accepted-facts m accounts hs S draw (length old) (verdict-accepted m accounts hs S draw (length old) (sym v))
-
-    pub fits : length hs ≤ length old
-    fits = verdict-room m accounts hs S draw (length old) (sym v)
-
-    pub call-asks : JudgedSeries hs T S (take (length hs) old) × (accepted ≡ first (drawRows m T draw))
-    call-asks = (
-      record {
-        room = length-take-le (length hs) old fits;
-        few = facts .few;
-        sum = eT;
-        small = omega (arith, facts .total-most);
-        some = facts .exercised-some;
-        most = omega (arith, facts .exercised-most);
-      },
-      rw eT (sym (draw-passes m accounts hs S draw (length old) (sym v))),
-    )
-
-    pub call-allocated : (o : Outcome) (vs : List ℕ) → o ≡ allocation T (further m hs S draw) → vs ≡ assigned m hs S draw → (o ≡ answer m accounts hs S draw (length old)) × ((vs ++ drop (length hs) old ≡ output m accounts hs S draw old) × FairOutput o m hs S (vs ++ drop (length hs) old))
-    unfolding Promised answer answerTo output outputTo
-    call-allocated o vs eo ev = promised o (vs ++ drop (length hs) old) (rw (← v) (eo ∙ ap (λ t. allocation t (further m hs S draw)) eT)) (rw (← v) (ap (_++ drop (length hs) old) ev))
+      let q : p ≡ startingPlace (total hs) (t .draw) = ep ∙ ap (λ x. startingPlace x (t .draw)) (judged .sum) in
+      record { answered = λ accounts. rw e (ap₂ (answered-by Method.Lottery) (judged .sum) q); written = λ accounts. rw e (ev ∙ ap (lottery hs S) q) }

@@ -1,18 +1,18 @@
--- The part of a list from element a on, as the code lends it, and the positions of such a part.
+-- The parts of a list that the code lends, from element a on and from the top up to element e, and the positions of such a part.
 use Prim.Native.Nat.{ℕ, suc, _+_, _-_, _≤_, _<_}
-use mathlib.Core.Path.{_≡_, refl, sym, ap, _∙_}
+use mathlib.Core.Path.{_≡_, sym, ap, _∙_}
 use mathlib.Core.List.{List, [], _++_, append-nil}
 use native.Mathlib.Omega.{arith}
-use native.Mathlib.Nat.{le-refl, add-sub-of-le}
+use native.Mathlib.Nat.{add-sub-of-le}
 use native.Mathlib.Decide.{decLt}
-use lib.ListN.{length, getD, take, drop, length-drop, length-append, take-append-drop, List·getD-append}
-use lib.Seq.{take-all, take-add, drop-drop, drop-length, getD-drop, getD-append-add, length-take-le, getD-take}
+use lib.ListN.{length, getD, take, drop, length-take, length-drop, length-append, List·getD-append}
+use lib.Seq.{take-all, take-add, drop-drop, drop-length, getD-drop, getD-append-add, length-take-le, getD-take, take-take}
 use borrow.Rule.Slice.PartMut.{putMid, postOf}
 use Rattle.series.specs.Places.{total, before, last}
 use Rattle.series.proofs.SumLaws.{total-append}
 use Rattle.series.proofs.PlaceLaws.{before-suc, before-mono}
-use Rattle.allocation.specs.Stretch.{overlap, Grown}
-use Rattle.allocation.proofs.StretchLaws.{last-is}
+use Rattle.allocation.specs.Stretch.{overlap, Grown, Room}
+use Rattle.allocation.proofs.StretchLaws.{last-is, overlap-beyond}
 
 -- a part from a to the end is the list without its first a elements
 pub part-is : (xs : List ℕ) (a : ℕ) → take (length xs - a) (drop a xs) ≡ drop a xs
@@ -67,5 +67,41 @@ grown-part hs old new a lo hi h l g =
             let i : ℕ = j - a in
             let e : j ≡ a + i = omega arith in
             rw e (put-after old new a i (omega arith) ∙ g .grown i (omega (arith, length-drop a hs)) ∙ shifted hs old a lo hi i)
+      ];
+    }
+
+-- the positions of a part from the top are those of the list
+pub before-take : (hs : List ℕ) (e j : ℕ) → j ≤ e → before (take e hs) j ≡ before hs j
+unfolding before
+before-take hs e j h = ap total (take-take j e hs h)
+
+pub last-take : (hs : List ℕ) (e j : ℕ) → j < e → last (take e hs) j ≡ last hs j
+last-take hs e j h = omega (arith, last-is (take e hs) j, last-is hs j, before-take hs e j (omega arith), getD-take e hs j 0 h)
+
+-- the part of the amounts from the top has room for the part of the list
+pub room-top : (hs out : List ℕ) (e : ℕ) → Room hs out → Room (take e hs) (take e out)
+room-top hs out e r =
+    record {
+      lengths = omega (arith, length-take e out, length-take e hs, r .lengths);
+      room = λ j k.
+          let less : j < e = omega (arith, length-take e hs) in
+          omega (arith, getD-take e hs j 0 less, getD-take e out j 0 less, r .room j (omega (arith, length-take e hs)));
+    }
+
+-- what the amounts of the part from the top grew by, where the contracts end within it, said of the whole list
+pub grown-top : (hs old new : List ℕ) (e x : ℕ) → e ≤ length hs → length old ≡ length hs → x ≤ before hs e → Grown (take e hs) (take e old) new 0 x → Grown hs old (new ++ drop e old) 0 x
+grown-top hs old new e x h l within g =
+    let size : length new ≡ e = g .same-length ∙ length-take-le e old (omega arith) in
+    record {
+      same-length = length-append new (drop e old) ∙ omega (arith, length-drop e old);
+      grown = λ j k. elim (decLt j e) [
+        | yes less ↦
+            List·getD-append new (drop e old) 0 j (omega arith) ∙ g .grown j (omega (arith, length-take-le e hs h)) ∙
+            rw (getD-take e old j 0 less, before-take hs e j (omega arith), last-take hs e j less)
+        | no more ↦
+            let i : ℕ = j - e in
+            let at : j ≡ length new + i = omega arith in
+            let kept : getD (new ++ drop e old) j 0 ≡ getD old j 0 = ap (λ k. getD (new ++ drop e old) k 0) at ∙ getD-append-add new (drop e old) i 0 ∙ getD-drop e old i 0 ∙ ap (λ k. getD old k 0) (omega arith) in
+            kept ∙ omega (arith, overlap-beyond (before hs j) (last hs j) 0 x (omega (arith, before-mono hs e j (omega arith) (omega arith))))
       ];
     }

@@ -1,20 +1,23 @@
--- A run round the wheel as two walks: to the end of the list, and from the top.
+-- A run round the wheel as two walks, each over a part of the list: to the end, and from the top.
 use Prim.Native.Nat.{ℕ, suc, _+_, _-_, _≤_, _<_, min, max}
-use mathlib.Core.Path.{_≡_, refl, sym, ap, ap₂, _∙_}
-use mathlib.Core.List.{List, [], _++_}
+use mathlib.Core.Path.{_≡_, sym, ap, ap₂, _∙_}
+use mathlib.Core.List.{List, _++_}
 use native.Mathlib.Omega.{arith}
 use native.Mathlib.Nat.{zero-add, add-zero, add-assoc}
 use native.Mathlib.Decide.{decLe, decLt}
 use lib.ListN.{length, getD, take, drop, set, length-drop, replicate, length-replicate, getD-replicate}
-use lib.Seq.{getD-drop, ext-getD, drop-cons, set-split}
+use lib.Seq.{getD-drop, getD-take, length-take-le, ext-getD, drop-cons, set-split}
 use borrow.Rule.Slice.PartMut.{putMid}
 use Rattle.series.specs.Places.{total, before, last, steps, run, marked, amounts, OnWheel}
 use Rattle.series.specs.Lottery.{lottery}
 use Rattle.series.proofs.SumLaws.{total-term}
 use Rattle.series.proofs.PlaceLaws.{steps-plain, steps-past, before-all, last-total, amount-at, length-amounts, run-plain, run-past, upFrom, marked-append, marked-upFrom}
-use Rattle.allocation.specs.Stretch.{overlap, Ends, Grown, OnList, Stands, Assigned, Small, Listed, Room, placeOf}
-use Rattle.allocation.proofs.StretchLaws.{last-is, Walk, walk-start, walk-inside, Growing, growing-start, grown-inside}
-use Rattle.allocation.proofs.PartLaws.{before-drop, part-is, put-is, grown-part}
+use Rattle.allocation.specs.declared.places.Stop.{Stop}
+use Rattle.allocation.specs.declared.places.Cursor.{Cursor}
+use Rattle.allocation.specs.Stretch.{overlap, Ends, Grown, OnList, Stands, Assignable, Assigned, Small, Sized, Room, placeOf}
+use Rattle.allocation.specs.Lottery.{LotteryCall}
+use Rattle.allocation.proofs.StretchLaws.{last-is, next-before, Walk, walk-start, walk-inside, growing-start, grown-inside}
+use Rattle.allocation.proofs.PartLaws.{before-drop, before-take, part-is, put-is, grown-part, grown-top}
 
 no-wrap : (b e q x T : ℕ) → x ≤ T → overlap b e q x ≡ overlap b e q x + overlap b e 0 (x - T)
 unfolding overlap
@@ -44,66 +47,85 @@ run-overlap T q n b e hq hn hb he =
     ]
 
 -- a walk of fewer contracts than the list has ends in a position
-ends-inside : (hs : List ℕ) (x i p l : ℕ) → Ends hs x i p l → x < total hs → i < length hs
-ends-inside hs x i p l t h =
-    elim (decLt i (length hs)) [
+ends-inside : (hs : List ℕ) (x : ℕ) (s : Stop) → Ends hs x s → x < total hs → s .at < length hs
+ends-inside hs x s t h =
+    elim (decLt (s .at) (length hs)) [
       | yes k ↦ k
       | no g ↦
-          let all : i ≡ length hs = omega (arith, t .on-list) in
+          let all : s .at ≡ length hs = omega (arith, t .on-list) in
           absurd (omega (arith, t .reached, ap (before hs) all, before-all hs))
     ]
 
-on-wheel : (hs : List ℕ) (i passed : ℕ) → OnList hs i passed → before hs i + passed < total hs
-on-wheel hs i passed on = omega (arith, on .contract, last-is hs i, last-total hs i (on .position))
+-- a walk over the part from the top, with fewer contracts than it has, is one over the list
+ends-top : (hs : List ℕ) (e x : ℕ) (s : Stop) → e ≤ length hs → x < before hs e → Ends (take e hs) x s → Ends hs x s
+unfolding before
+ends-top hs e x s h within t =
+    let in-part : s .at < length (take e hs) = ends-inside (take e hs) x s t within in
+    let less : s .at < e = omega (arith, length-take-le e hs h) in
+    let here = t .inside in-part in
+    record {
+      on-list = omega arith;
+      reached = omega (arith, t .reached, before-take hs e (s .at) (omega arith));
+      inside = λ _. (omega (arith, here .0, getD-take e hs (s .at) 0 less), here .1);
+      past = λ g. absurd (omega arith);
+    }
 
-module _ (hs : List ℕ) (a passed n i p l : ℕ) (on : OnList hs a passed) (e : Ends (drop a hs) (passed + n) i p l) where
-  reached-whole : before hs (a + i) + p + l ≡ before hs a + passed + n
-  reached-whole = omega (arith, e .reached, before-drop hs a i)
+on-wheel : (hs : List ℕ) (c : Cursor) → OnList hs c → before hs (c .at) + c .passed .0 < total hs
+on-wheel hs c on = omega (arith, on .contract, last-is hs (c .at), last-total hs (c .at) (on .position))
+
+-- a walk of n contracts over the part that the cursor stands in
+module _ (hs : List ℕ) (c : Cursor) (n : ℕ) (s : Stop) (on : OnList hs c) (e : Ends (drop (c .at) hs) (c .passed .0 + n) s) where
+  reached-whole : before hs (c .at + s .at) + s .passed .0 + s .left .0 ≡ before hs (c .at) + c .passed .0 + n
+  reached-whole = omega (arith, e .reached, before-drop hs (c .at) (s .at))
 
   -- the walk ends before the end of the list
-  pub stands-part : i < length hs - a → Stands hs n (placeOf hs a passed) (a + i) p
+  pub stands-part : s .at < length hs - c .at → Stands hs n (placeOf hs c) (record { at = c .at + s .at; passed = s .passed })
   unfolding placeOf
   stands-part h =
-      let in-part = e .inside (omega (arith, length-drop a hs)) in
-      let here : OnList hs (a + i) p = record { position = omega arith; contract = omega (arith, in-part .0, getD-drop a hs i 0) } in
-      let most : before hs (a + i) + p < total hs = on-wheel hs (a + i) p here in
-      record { on = here; place = sym (steps-plain (total hs) n (suc (before hs a + passed)) (omega (arith, reached-whole, in-part .1)) ∙ omega (arith, reached-whole, in-part .1)) }
+      let r : Cursor = record { at = c .at + s .at; passed = s .passed } in
+      let in-part = e .inside (omega (arith, length-drop (c .at) hs)) in
+      let here : OnList hs r = record { position = omega arith; contract = omega (arith, in-part .0, getD-drop (c .at) hs (s .at) 0) } in
+      let most : before hs (c .at + s .at) + s .passed .0 < total hs = on-wheel hs r here in
+      record { on = here; place = sym (steps-plain (total hs) n (suc (before hs (c .at) + c .passed .0)) (omega (arith, reached-whole, in-part .1)) ∙ omega (arith, reached-whole, in-part .1)) }
 
   -- what is left past the end of the list
-  left-past : length hs - a ≤ i → l ≡ before hs a + passed + n - total hs × (total hs ≤ before hs a + passed + n)
+  left-past : length hs - c .at ≤ s .at → s .left .0 ≡ before hs (c .at) + c .passed .0 + n - total hs × (total hs ≤ before hs (c .at) + c .passed .0 + n)
   left-past h =
-      let none : p ≡ 0 = e .past (omega (arith, length-drop a hs)) in
-      let all : a + i ≡ length hs = omega (arith, e .on-list, length-drop a hs, on .position) in
-      let end : before hs (a + i) ≡ total hs = ap (before hs) all ∙ before-all hs in
+      let none : s .passed .0 ≡ 0 = e .past (omega (arith, length-drop (c .at) hs)) in
+      let all : c .at + s .at ≡ length hs = omega (arith, e .on-list, length-drop (c .at) hs, on .position) in
+      let end : before hs (c .at + s .at) ≡ total hs = ap (before hs) all ∙ before-all hs in
       (omega (arith, reached-whole), omega (arith, reached-whole))
 
-  -- the walk goes on from the top
-  pub stands-top : n ≤ total hs → length hs - a ≤ i → (i2 p2 l2 : ℕ) → Ends hs (0 + l) i2 p2 l2 → Stands hs n (placeOf hs a passed) i2 p2
+  -- and it ends before the place where the run began
+  left-short : n ≤ total hs → length hs - c .at ≤ s .at → 0 + s .left .0 < before hs (c .at + 1)
+  left-short most h = omega (arith, left-past h .0, on .contract, next-before hs (c .at) (on .position))
+
+  -- the walk goes on over the part from the top, up to the position where it began
+  pub stands-top : n ≤ total hs → length hs - c .at ≤ s .at → (t : Stop) → Ends (take (c .at + 1) hs) (0 + s .left .0) t → Stands hs n (placeOf hs c) (record { at = t .at; passed = t .passed })
   unfolding placeOf
-  stands-top most h i2 p2 l2 t =
-      let q : ℕ = before hs a + passed in
-      let below : q < total hs = on-wheel hs a passed on in
+  stands-top most h t top =
+      let whole : Ends hs (0 + s .left .0) t = ends-top hs (c .at + 1) (0 + s .left .0) t (omega (arith, on .position)) (left-short most h) top in
+      let below : before hs (c .at) + c .passed .0 < total hs = on-wheel hs c on in
       let left = left-past h in
-      let less : l < total hs = omega (arith, left .0, left .1) in
-      let in-list : i2 < length hs = ends-inside hs (0 + l) i2 p2 l2 t (omega arith) in
+      let in-list : t .at < length hs = ends-inside hs (0 + s .left .0) t whole (omega (arith, left .0, left .1)) in
       record {
-        on = record { position = in-list; contract = t .inside in-list .0 };
-        place = sym (steps-past (total hs) n q below (left .1) (omega (arith, left .0)) ∙ omega (arith, left .0, t .reached, t .inside in-list .1));
+        on = record { position = in-list; contract = whole .inside in-list .0 };
+        place = sym (steps-past (total hs) n (before hs (c .at) + c .passed .0) below (left .1) (omega (arith, left .0)) ∙ omega (arith, left .0, whole .reached, whole .inside in-list .1));
       }
 
 -- what is asked of the part that the cursor stands in
-pub part-first : (hs : List ℕ) (a passed : ℕ) → OnList hs a passed → passed ≤ getD (take (length hs - a) (drop a hs)) 0 0
-part-first hs a passed on = rw (part-is hs a, getD-drop a hs 0 0, add-zero a) (omega (arith, on .contract))
+pub part-first : (hs : List ℕ) (c : Cursor) → OnList hs c → c .passed .0 ≤ getD (take (length hs - c .at) (drop (c .at) hs)) 0 0
+part-first hs c on = rw (part-is hs (c .at), getD-drop (c .at) hs 0 0, add-zero (c .at)) (omega (arith, on .contract))
 
 -- what a walk over the part says of it
-pub part-ends : (hs : List ℕ) (a x i p l : ℕ) → Ends (take (length hs - a) (drop a hs)) x i p l → Ends (drop a hs) x i p l
-part-ends hs a x i p l e = rw (part-is hs a) at e
+pub part-ends : (hs : List ℕ) (a x : ℕ) (s : Stop) → Ends (take (length hs - a) (drop a hs)) x s → Ends (drop a hs) x s
+part-ends hs a x s e = rw (part-is hs a) at e
 
 -- a place is found from the top
-pub stands-first : (hs : List ℕ) (place i p l : ℕ) → OnWheel (total hs) place → Ends hs (0 + (place - 1)) i p l → Stands hs 0 place i p
+pub stands-first : (hs : List ℕ) (place : ℕ) (s : Stop) → OnWheel (total hs) place → Ends hs (0 + (place - 1)) s → Stands hs 0 place (record { at = s .at; passed = s .passed })
 unfolding placeOf steps
-stands-first hs place i p l on e =
-    let in-list : i < length hs = ends-inside hs (0 + (place - 1)) i p l e (omega (arith, on .low, on .high)) in
+stands-first hs place s on e =
+    let in-list : s .at < length hs = ends-inside hs (0 + (place - 1)) s e (omega (arith, on .low, on .high)) in
     record { on = record { position = in-list; contract = e .inside in-list .0 }; place = omega (arith, e .reached, e .inside in-list .1, on .low) }
 
 -- the part of the amounts has room for the part of the list
@@ -162,30 +184,47 @@ module _ (hs out : List ℕ) (q n : ℕ) (below : q < total hs) (most : n ≤ to
       }
 
 -- One run of n contracts from the cursor: the walk over the part that the cursor stands in, and the one from the top.
-module _ (hs out new : List ℕ) (a passed n i p l : ℕ) (small : Small hs out) (on : OnList hs a passed) (most : n ≤ total hs) (e : Ends (take (length hs - a) (drop a hs)) (passed + n) i p l) (g : Grown (take (length hs - a) (drop a hs)) (take (length out - a) (drop a out)) new passed (passed + n)) where
-  ends : Ends (drop a hs) (passed + n) i p l
-  ends = rw (part-is hs a) at e
+module _ (hs out new : List ℕ) (c : Cursor) (n : ℕ) (s : Stop) (asked : Assignable hs out c n) (e : Ends (take (length hs - c .at) (drop (c .at) hs)) (c .passed .0 + n) s) (g : Grown (take (length hs - c .at) (drop (c .at) hs)) (take (length out - c .at) (drop (c .at) out)) new (c .passed .0) (c .passed .0 + n)) where
+  -- the first contract's place, less 1
+  abbrev q : ℕ
+  q = before hs (c .at) + c .passed .0
 
-  grown : Grown hs out (putMid a (length out - a) out new) (before hs a + passed) (before hs a + passed + n)
-  grown = rw (← add-assoc (before hs a) passed n) at (grown-put hs out new a passed (passed + n) small (omega (arith, on .position)) g)
+  -- the amounts with the part put back
+  abbrev mid : List ℕ
+  mid = putMid (c .at) (length out - c .at) out new
 
-  pub run-room : Room hs (putMid a (length out - a) out new)
-  run-room = room-again hs out (putMid a (length out - a) out new) (before hs a + passed) (before hs a + passed + n) small grown
+  on : OnList hs c
+  on = asked .ahead .on
 
-  pub run-part : i < length hs - a → (Stands hs n (placeOf hs a passed) (a + i) p) × Assigned hs out (putMid a (length out - a) out new) (run (total hs) n (placeOf hs a passed))
+  below : q < total hs
+  below = on-wheel hs c on
+
+  ends : Ends (drop (c .at) hs) (c .passed .0 + n) s
+  ends = part-ends hs (c .at) (c .passed .0 + n) s e
+
+  grown : Grown hs out mid q (q + n)
+  grown = rw (← add-assoc (before hs (c .at)) (c .passed .0) n) at (grown-put hs out new (c .at) (c .passed .0) (c .passed .0 + n) (asked .small) (omega (arith, on .position)) g)
+
+  pub run-room : Room hs mid
+  run-room = room-again hs out mid q (q + n) (asked .small) grown
+
+  pub run-part : s .at < length hs - c .at → (Stands hs n (placeOf hs c) (record { at = c .at + s .at; passed = s .passed })) × Assigned hs out mid (run (total hs) n (placeOf hs c))
   unfolding placeOf
   run-part h =
-      let stands = stands-part hs a passed n i p l on ends h in (
+      let stands = stands-part hs c n s on ends h in (
         stands,
-        assigned-part hs out (before hs a + passed) n (on-wheel hs a passed on) most (putMid a (length out - a) out new) (omega (arith, on-wheel hs (a + i) p (stands .on), reached-whole hs a passed n i p l on ends, ends .inside (omega (arith, length-drop a hs)) .1)) grown,
+        assigned-part hs out q n below (asked .ahead .most) mid (omega (arith, on-wheel hs _ (stands .on), reached-whole hs c n s on ends, ends .inside (omega (arith, length-drop (c .at) hs)) .1)) grown,
       )
 
-  pub run-top : length hs - a ≤ i → (last-new : List ℕ) (i2 p2 l2 : ℕ) → Ends hs (0 + l) i2 p2 l2 → Grown hs (putMid a (length out - a) out new) last-new 0 (0 + l) → (Stands hs n (placeOf hs a passed) i2 p2) × Assigned hs out last-new (run (total hs) n (placeOf hs a passed))
+  pub run-top : length hs - c .at ≤ s .at → (top : List ℕ) (t : Stop) → Ends (take (c .at + 1) hs) (0 + s .left .0) t → Grown (take (c .at + 1) hs) (take (c .at + 1) mid) top 0 (0 + s .left .0) → (Stands hs n (placeOf hs c) (record { at = t .at; passed = t .passed })) × Assigned hs out (top ++ drop (c .at + 1) mid) (run (total hs) n (placeOf hs c))
   unfolding placeOf
-  run-top h last-new i2 p2 l2 e2 g2 = (
-    stands-top hs a passed n i p l on ends most h i2 p2 l2 e2,
-    assigned-top hs out (before hs a + passed) n (on-wheel hs a passed on) most (putMid a (length out - a) out new) last-new l (left-past hs a passed n i p l on ends h .0) grown g2,
-  )
+  run-top h top t e2 g2 =
+      let most = asked .ahead .most in
+      let whole : Grown hs mid (top ++ drop (c .at + 1) mid) 0 (0 + s .left .0) =
+      grown-top hs mid top (c .at + 1) (0 + s .left .0) (omega (arith, on .position)) (grown .same-length ∙ asked .small .lengths) (omega (arith, left-short hs c n s on ends most h)) g2 in (
+        stands-top hs c n s on ends most h t e2,
+        assigned-top hs out q n below most mid (top ++ drop (c .at + 1) mid) (s .left .0) (left-past hs c n s on ends h .0) grown whole,
+      )
 
 -- where all amounts were 0, they are the marks on each position's contracts
 pub assigned-amounts : (hs out new ms : List ℕ) → length out ≡ length hs → Assigned hs (replicate (length out) 0) new ms → new ≡ amounts hs ms
@@ -195,7 +234,7 @@ assigned-amounts hs out new ms l a =
     let inside : j < length hs = omega (arith, a .same-length, length-replicate {A = ℕ} (length out) 0) in
     omega (arith, a .grown j inside, amount-at hs ms j inside, getD-replicate {A = ℕ} (length out) j 0 0 (omega arith)))
 
-pub small-zero : (hs out : List ℕ) → Listed hs out → Small hs (replicate (length out) 0)
+pub small-zero : (hs out : List ℕ) → Sized hs out → Small hs (replicate (length out) 0)
 small-zero hs out l =
     record {
       lengths = length-replicate {A = ℕ} (length out) 0 ∙ l .lengths;
@@ -204,41 +243,47 @@ small-zero hs out l =
     }
 
 -- one run from a starting place
-module _ (hs out cleared : List ℕ) (S p i passed : ℕ) (listed : Listed hs out) (most : S ≤ total hs) (stands : Stands hs 0 p i passed) (ec : cleared ≡ replicate (length out) 0) where
-  pub lottery-ready : Small hs cleared × (OnList hs i passed × (S ≤ total hs))
-  lottery-ready = rw ec (small-zero hs out listed, (stands .on, most))
+module _ (hs out cleared : List ℕ) (S p : ℕ) (c : Cursor) (call : LotteryCall hs out S p) (stands : Stands hs 0 p c) (ec : cleared ≡ replicate (length out) 0) where
+  pub lottery-ready : Assignable hs cleared c S
+  lottery-ready = rw ec (record { small = small-zero hs out (call .sized); ahead = record { on = stands .on; most = call .most } })
 
-  pub lottery-done : (new : List ℕ) → Assigned hs cleared new (run (total hs) S (placeOf hs i passed)) → new ≡ lottery hs S p
+  pub lottery-done : (new : List ℕ) → Assigned hs cleared new (run (total hs) S (placeOf hs c)) → new ≡ lottery hs S p
   unfolding lottery steps
-  lottery-done new a = assigned-amounts hs out new (run (total hs) S p) (listed .lengths) (rw (ec, stands .place) at a)
+  lottery-done new a = assigned-amounts hs out new (run (total hs) S p) (call .sized .lengths) (rw (ec, stands .place) at a)
 
 -- A run that ends in the position it begins in.
-module _ (hs : List ℕ) (a passed n : ℕ) (on : OnList hs a passed) (inside : n < getD hs a 0 - passed) where
-  own-first : getD (drop a hs) 0 0 ≡ getD hs a 0
-  own-first = getD-drop a hs 0 0 ∙ ap (λ k. getD hs k 0) (add-zero a)
+module _ (hs : List ℕ) (c : Cursor) (n : ℕ) (on : OnList hs c) (inside : n < getD hs (c .at) 0 - c .passed .0) where
+  abbrev a : ℕ
+  a = c .at
 
-  own-walk : Walk (drop a hs) passed (passed + n) 0 passed n
-  own-walk = walk-start (drop a hs) passed n (omega (arith, on .contract, own-first))
+  abbrev passed : ℕ
+  passed = c .passed .0
 
-  own-part : 0 < length (drop a hs)
-  own-part = omega (arith, length-drop a hs, on .position)
+  first-here : getD (drop a hs) 0 0 ≡ getD hs a 0
+  first-here = getD-drop a hs 0 0 ∙ ap (λ k. getD hs k 0) (add-zero a)
 
-  pub stands-own : Stands hs n (placeOf hs a passed) a (passed + n)
-  stands-own =
+  walk-here : Walk (drop a hs) passed (passed + n) 0 passed n
+  walk-here = walk-start (drop a hs) passed n (omega (arith, on .contract, first-here))
+
+  some-here : 0 < length (drop a hs)
+  some-here = omega (arith, length-drop a hs, on .position)
+
+  pub stands-here : Stands hs n (placeOf hs c) (record { at = a; passed = record { 0 = passed + n } })
+  stands-here =
       rw add-zero at
-      (stands-part hs a passed n 0 (passed + n) 0 on (walk-inside (drop a hs) passed (passed + n) 0 passed n own-walk own-part (omega (arith, own-first))) (omega (arith, on .position)))
+      (stands-part hs c n (record { at = 0; passed = record { 0 = passed + n }; left = record { 0 = 0 } }) on (walk-inside (drop a hs) passed (passed + n) 0 passed n walk-here some-here (omega (arith, first-here))) (omega (arith, on .position)))
 
-  pub assigned-own : (out : List ℕ) → Small hs out → n ≤ total hs → Assigned hs out (set out a (getD out a 0 + n)) (run (total hs) n (placeOf hs a passed))
+  pub assigned-here : (out : List ℕ) → Small hs out → n ≤ total hs → Assigned hs out (set out a (getD out a 0 + n)) (run (total hs) n (placeOf hs c))
   unfolding placeOf
-  assigned-own out small most =
+  assigned-here out small most =
       let held : a < length out = omega (arith, on .position, small .lengths) in
       let v : ℕ = getD out a 0 + n in
       let first : getD (drop a out) 0 0 ≡ getD out a 0 = getD-drop a out 0 0 ∙ ap (λ k. getD out k 0) (add-zero a) in
       let put : take a out ++ set (drop a out) 0 v ≡ set out a v = ap (λ zs. take a out ++ set zs 0 v) (drop-cons out a 0 held) ∙ sym (set-split out a v held) in
       let part : Grown (drop a hs) (drop a out) (set (drop a out) 0 (getD (drop a out) 0 0 + n)) passed (passed + n) =
-      grown-inside (drop a hs) (drop a out) (drop a out) passed (passed + n) 0 passed n own-walk (growing-start (drop a hs) (drop a out) passed (passed + n)) own-part (omega (arith, length-drop a out)) (omega (arith, own-first)) in
+      grown-inside (drop a hs) (drop a out) (drop a out) passed (passed + n) 0 passed n walk-here (growing-start (drop a hs) (drop a out) passed (passed + n)) some-here (omega (arith, length-drop a out)) (omega (arith, first-here)) in
       let whole : Grown hs out (take a out ++ set (drop a out) 0 v) (before hs a + passed) (before hs a + (passed + n)) =
       grown-part hs out (set (drop a out) 0 v) a passed (passed + n) (omega (arith, on .position)) (small .lengths) (rw first at part) in
-      assigned-part hs out (before hs a + passed) n (on-wheel hs a passed on) most (set out a v)
+      assigned-part hs out (before hs a + passed) n (on-wheel hs c on) most (set out a v)
       (omega (arith, inside, on .contract, last-is hs a, last-total hs a (on .position)))
       (rw (put, ← add-assoc (before hs a) passed n) at whole)

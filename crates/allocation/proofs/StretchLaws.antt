@@ -1,16 +1,16 @@
 -- A walk down a list: what is kept at each position, and what it comes to.
-use Prim.Native.Nat.{ℕ, zero, suc, _+_, _-_, _^_, _≤_, _<_, min, max}
-use mathlib.Core.Path.{_≡_, refl, sym, ap, _∙_}
-use mathlib.Core.List.{List, [], _∷_}
+use Prim.Native.Nat.{ℕ, _+_, _-_, _≤_, _<_, max}
+use mathlib.Core.Path.{_≡_, refl, ap, _∙_}
+use mathlib.Core.List.{List}
 use native.Mathlib.Omega.{arith}
 use native.Mathlib.Nat.{le-refl}
 use native.Mathlib.Numerals.{add-one}
-use native.Mathlib.Decide.{decLt, decLe, ℕ-discrete}
+use native.Mathlib.Decide.{decLe, ℕ-discrete}
 use lib.ListN.{length, getD, set, length-set, List·getD-eq-default}
 use lib.Seq.{getD-set-same, getD-set-other}
-use Rattle.series.specs.Places.{total, before, last, marked}
-use Rattle.series.proofs.PlaceLaws.{before-suc, before-mono, before-all, before-zero}
-use Rattle.allocation.specs.Stretch.{overlap, Ends, Grown, Room}
+use Rattle.series.specs.Places.{before, last}
+use Rattle.series.proofs.PlaceLaws.{before-suc, before-mono, before-zero}
+use Rattle.allocation.specs.Stretch.{overlap, Ends, Grown}
 
 -- at position i, after lo passed contracts and on the way to x: so many of its contracts are passed and so many are left to go
 pub record Walk (hs : List ℕ) (lo x i passed left : ℕ) : Type 0 where
@@ -23,7 +23,7 @@ pub last-is : (hs : List ℕ) (i : ℕ) → last hs i ≡ before hs i + getD hs 
 unfolding last
 last-is hs i = refl
 
-next-before : (hs : List ℕ) (i : ℕ) → i < length hs → before hs (i + 1) ≡ before hs i + getD hs i 0
+pub next-before : (hs : List ℕ) (i : ℕ) → i < length hs → before hs (i + 1) ≡ before hs i + getD hs i 0
 next-before hs i h = ap (before hs) (add-one i) ∙ before-suc hs i h ∙ last-is hs i
 
 pub walk-start : (hs : List ℕ) (lo n : ℕ) → lo ≤ getD hs 0 0 → Walk hs lo (lo + n) 0 lo n
@@ -39,11 +39,11 @@ walk-next hs lo x i passed left w h l =
       fits = omega arith;
     }
 
-pub walk-inside : (hs : List ℕ) (lo x i passed left : ℕ) → Walk hs lo x i passed left → i < length hs → left < getD hs i 0 - passed → Ends hs x i (passed + left) 0
+pub walk-inside : (hs : List ℕ) (lo x i passed left : ℕ) → Walk hs lo x i passed left → i < length hs → left < getD hs i 0 - passed → Ends hs x (record { at = i; passed = record { 0 = passed + left }; left = record { 0 = 0 } })
 walk-inside hs lo x i passed left w h l =
     record { on-list = omega arith; reached = omega (arith, w .reached); inside = λ _. (omega arith, refl); past = λ g. absurd (omega arith) }
 
-pub walk-past : (hs : List ℕ) (lo x i passed left : ℕ) → Walk hs lo x i passed left → length hs ≤ i → Ends hs x i 0 left
+pub walk-past : (hs : List ℕ) (lo x i passed left : ℕ) → Walk hs lo x i passed left → length hs ≤ i → Ends hs x (record { at = i; passed = record { 0 = 0 }; left = record { 0 = left } })
 walk-past hs lo x i passed left w h =
     let none : getD hs i 0 ≡ 0 = List·getD-eq-default hs 0 h in
     record { on-list = w .on-list; reached = omega (arith, w .reached, w .fits); inside = λ g. absurd (omega arith); past = λ _. refl }
@@ -65,7 +65,7 @@ overlap-cut : (b e lo hi k : ℕ) → k ≡ max b lo → hi ≤ e → overlap b 
 unfolding overlap
 overlap-cut b e lo hi k l h = omega arith
 
-overlap-beyond : (b e lo hi : ℕ) → hi ≤ b → overlap b e lo hi ≡ 0
+pub overlap-beyond : (b e lo hi : ℕ) → hi ≤ b → overlap b e lo hi ≡ 0
 unfolding overlap
 overlap-beyond b e lo hi h = omega arith
 

@@ -1,5 +1,5 @@
+-- What the functions of src/ ask and promise.
 pub mod Millionths
 pub mod Stretch
-pub mod Turn
-pub mod Judged
-pub mod ProRata
+pub mod Lottery
+pub mod Blocks

@@ -1,10 +1,8 @@
-// The allocating call, and private modules for its parts.
-mod judging;
+// The allocating call: the wheel and the starting number in private modules, pro rata in a crate of its own.
 mod lists;
 mod lottery;
 mod millionths;
 mod places;
-mod pro_rata;
 mod wheel;
 
 use judging::Judged;
@@ -12,74 +10,83 @@ use series::Answer;
 use series::Contracts;
 use series::Method;
 use series::Place;
-ghost use mathlib.Core.Path.{_≡_};
+use series::Terms;
 ghost use lib.ListN.{length};
-ghost use Rattle.series.specs.Refusals.{accepted, first, drawRows};
-ghost use Rattle.series.specs.Answers.{outcomeOf, allocation};
-ghost use Rattle.series.specs.Call.{assigned, further, answer, output};
-ghost use Rattle.series.specs.Fair.{FairOutput};
-ghost use Rattle.allocation.specs.ProRata.{JudgedSeries};
+ghost use Rattle.series.specs.Answers.{answerOf};
+ghost use Rattle.series.specs.Fair.{AllocatingCall};
+ghost use Rattle.series.specs.declared.Method.{Method as Method·};
 
 // The assignment increment.
 const INCREMENT: u32 = 25;
 
-// Assigns by the method, of a call that meets no refusal.
-fn assign(
-    method: Method,
-    shorts: &[u32],
-    total: Contracts,
+// The call by the wheel.
+fn allocate_wheel(
     exercised: Contracts,
     draw: u32,
+    accounts: &[u32],
+    shorts: &[u32],
     amounts: &mut [u32],
 ) -> Answer
-    requires { ⌜ JudgedSeries (now shorts) (total .0) (exercised .0) (now amounts) ⌝ }
-    requires { ⌜ accepted ≡ first (drawRows method (total .0) draw) ⌝ }
-    ensures { λ r. ⌜ outcomeOf r ≡ allocation (total .0) (further method (now (shorts .entry)) (exercised .0) draw) ⌝ }
-    ensures { λ _. ⌜ now (amounts .exit) ≡ assigned method (now (shorts .entry)) (exercised .0) draw ⌝ }
+    ensures { λ r. ⌜ AllocatingCall (record { terms = record { method = Method·.Wheel; exercised = exercised; draw = draw }; accounts = now (accounts .entry); shorts = now (shorts .entry) }) (answerOf r) (now (amounts .entry)) (now (amounts .exit)) ⌝ }
 {
-    match method {
-        Method::Wheel => {
+    let terms = Terms {
+        method: Method::Wheel,
+        exercised,
+        draw,
+    };
+    match judging::judge(terms, accounts, shorts, amounts.len()) {
+        Judged::Refused(refusal) => Answer::Refused(refusal),
+        Judged::Accepted(total) => {
+            let n = shorts.len();
             let blocks = wheel::assign(
                 shorts,
                 total,
                 exercised,
                 Place(draw),
                 Contracts(INCREMENT),
-                amounts,
+                &mut amounts[..n],
             );
             Answer::Wheel { total, blocks }
         }
-        Method::ProRata => {
-            let remainder = pro_rata::assign(shorts, total, exercised, draw, amounts);
-            Answer::ProRata { total, remainder }
-        }
-        Method::Lottery => {
+    }
+}
+
+// The call by the starting number.
+fn allocate_lottery(
+    exercised: Contracts,
+    draw: u32,
+    accounts: &[u32],
+    shorts: &[u32],
+    amounts: &mut [u32],
+) -> Answer
+    ensures { λ r. ⌜ AllocatingCall (record { terms = record { method = Method·.Lottery; exercised = exercised; draw = draw }; accounts = now (accounts .entry); shorts = now (shorts .entry) }) (answerOf r) (now (amounts .entry)) (now (amounts .exit)) ⌝ }
+{
+    let terms = Terms {
+        method: Method::Lottery,
+        exercised,
+        draw,
+    };
+    match judging::judge(terms, accounts, shorts, amounts.len()) {
+        Judged::Refused(refusal) => Answer::Refused(refusal),
+        Judged::Accepted(total) => {
+            let n = shorts.len();
             let start = lottery::starting_place(total, draw);
-            lottery::assign(shorts, exercised, start, amounts);
+            lottery::assign(shorts, exercised, start, &mut amounts[..n]);
             Answer::Lottery { total, start }
         }
     }
 }
 
 // Assigns the exercised contracts to the positions, amounts in list order; or the first refusal that applies, and then amounts keeps its elements.
-pub fn allocate(
-    method: Method,
-    accounts: &[u32],
-    shorts: &[u32],
-    exercised: Contracts,
-    draw: u32,
-    amounts: &mut [u32],
-) -> Answer
-    ensures { λ r. ⌜ outcomeOf r ≡ answer method (now (accounts .entry)) (now (shorts .entry)) (exercised .0) draw (length (now (amounts .entry))) ⌝ }
-    ensures { λ _. ⌜ now (amounts .exit) ≡ output method (now (accounts .entry)) (now (shorts .entry)) (exercised .0) draw (now (amounts .entry)) ⌝ }
-    ensures { λ r. ⌜ FairOutput (outcomeOf r) method (now (shorts .entry)) (exercised .0) (now (amounts .exit)) ⌝ }
+pub fn allocate(terms: Terms, accounts: &[u32], shorts: &[u32], amounts: &mut [u32]) -> Answer
+    ensures { λ r. ⌜ AllocatingCall (record { terms = terms; accounts = now (accounts .entry); shorts = now (shorts .entry) }) (answerOf r) (now (amounts .entry)) (now (amounts .exit)) ⌝ }
 {
-    let judged = judging::judge(method, accounts, shorts, exercised, draw, amounts.len());
-    match judged {
-        Judged::Refused(refusal) => Answer::Refused(refusal),
-        Judged::Accepted(total) => {
-            let n = shorts.len();
-            assign(method, shorts, total, exercised, draw, &mut amounts[..n])
-        }
+    let method = terms.method;
+    let exercised = terms.exercised;
+    let draw = terms.draw;
+    match method {
+        Method::Wheel => allocate_wheel(exercised, draw, accounts, shorts, amounts),
+        Method::ProRata => pro_rata::allocate(exercised, draw, accounts, shorts, amounts),
+        Method::Lottery => allocate_lottery(exercised, draw, accounts, shorts, amounts),
     }
 }

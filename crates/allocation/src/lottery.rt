@@ -5,14 +5,14 @@ use crate::places::seek;
 use series::Contracts;
 use series::Place;
 ghost use mathlib.Core.Path.{_≡_};
-ghost use Prim.Native.Nat.{_≤_, _<_};
-ghost use Rattle.series.specs.Places.{total, OnWheel};
+ghost use Prim.Native.Nat.{_≤_};
+ghost use Rattle.series.specs.Series.{MOST_CONTRACTS};
 ghost use Rattle.series.specs.Lottery.{lottery, startingPlace};
-ghost use Rattle.allocation.specs.Stretch.{Listed};
+ghost use Rattle.allocation.specs.Lottery.{LotteryCall};
 
 // The starting place: the draw in ten-thousandths of T, rounded up.
 pub fn starting_place(total: Contracts, draw: u32) -> Place
-    requires { ⌜ (total .0 ≤ 10000000) × (draw ≤ 10000) ⌝ }
+    requires { ⌜ (total .0 ≤ MOST_CONTRACTS) × (draw ≤ 10000) ⌝ }
     ensures { λ r. ⌜ r .0 ≡ startingPlace (total .0) draw ⌝ }
 {
     Place((((draw as u64) * (total.0 as u64) + 9999) / 10000) as u32)
@@ -20,9 +20,7 @@ pub fn starting_place(total: Contracts, draw: u32) -> Place
 
 // Assigns S contracts from the starting place on.
 pub fn assign(shorts: &[u32], exercised: Contracts, start: Place, amounts: &mut [u32])
-    requires { ⌜ Listed (now shorts) (now amounts) ⌝ }
-    requires { ⌜ exercised .0 ≤ total (now shorts) ⌝ }
-    requires { ⌜ OnWheel (total (now shorts)) (start .0) ⌝ }
+    requires { ⌜ LotteryCall (now shorts) (now amounts) (exercised .0) (start .0) ⌝ }
     ensures { λ _. ⌜ now (amounts .exit) ≡ lottery (now (shorts .entry)) (exercised .0) (start .0) ⌝ }
 {
     clear(amounts);

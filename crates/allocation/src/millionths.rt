@@ -1,9 +1,10 @@
 // Contracts in millionths, a fixed-point number: the skip interval and the reserve.
 use series::Contracts;
 ghost use mathlib.Core.Path.{_≡_};
-ghost use Prim.Native.Nat.{_+_, _/_, _%_, _*_, _<_, _≤_, _^_};
+ghost use Prim.Native.Nat.{_+_, _/_, _%_, _<_, _≤_};
+ghost use Rattle.series.specs.Series.{MOST_CONTRACTS};
 ghost use Rattle.series.specs.Wheel.{ONE, interval};
-ghost use Rattle.allocation.specs.Millionths.{millionths};
+ghost use Rattle.allocation.specs.Millionths.{millionths, Carried, SumFits};
 
 // So many whole contracts and, below one contract, so many millionths.
 pub struct Millionths {
@@ -27,8 +28,8 @@ impl Millionths {
 
     // The skip interval: T divided by T1 to six places, an exact half going up, less the increment, and zero where that is below zero.
     pub fn interval(total: Contracts, blocks: u32, increment: Contracts) -> Self
-        requires { ⌜ (total .0 ≤ 10000000) × (0 < blocks) ⌝ }
-        ensures { λ r. ⌜ (millionths r ≡ interval (increment .0) (total .0) blocks) × (r .decimals < ONE) ⌝ }
+        requires { ⌜ (total .0 ≤ MOST_CONTRACTS) × (0 < blocks) ⌝ }
+        ensures { λ r. ⌜ (millionths r ≡ interval (increment .0) (total .0) blocks) × Carried r ⌝ }
     {
         let one = Millionths::ONE as u64;
         let wide = blocks as u64;
@@ -46,8 +47,8 @@ impl Millionths {
 
     // The sum: decimals that make a contract are carried.
     pub fn plus(self, other: Self) -> Self
-        requires { ⌜ (self .decimals < ONE) × (other .decimals < ONE) × (millionths self + millionths other < 2 ^ 32 * ONE) ⌝ }
-        ensures { λ r. ⌜ (millionths r ≡ millionths self + millionths other) × (r .decimals < ONE) ⌝ }
+        requires { ⌜ SumFits self other ⌝ }
+        ensures { λ r. ⌜ (millionths r ≡ millionths self + millionths other) × Carried r ⌝ }
     {
         let contracts = self.contracts + other.contracts;
         let decimals = self.decimals + other.decimals;
@@ -65,7 +66,7 @@ impl Millionths {
 
     // The whole contracts.
     pub fn whole(self) -> Contracts
-        requires { ⌜ self .decimals < ONE ⌝ }
+        requires { ⌜ Carried self ⌝ }
         ensures { λ r. ⌜ r .0 ≡ millionths self / ONE ⌝ }
     {
         Contracts(self.contracts)
@@ -73,7 +74,7 @@ impl Millionths {
 
     // The decimals.
     pub fn rest(self) -> Self
-        requires { ⌜ self .decimals < ONE ⌝ }
+        requires { ⌜ Carried self ⌝ }
         ensures { λ r. ⌜ millionths r ≡ millionths self % ONE ⌝ }
     {
         Millionths {

@@ -1,11 +1,10 @@
 // Walks over the contracts of a list, a position at a time.
 use series::Contracts;
 use series::Place;
-ghost use mathlib.Core.Path.{_≡_};
 ghost use Prim.Native.Nat.{_+_, _≤_};
 ghost use Rattle.series.specs.Places.{total, run, OnWheel};
-ghost use lib.ListN.{length, getD};
-ghost use Rattle.allocation.specs.Stretch.{Ends, Grown, Room, Small, OnList, Stands, Assigned, placeOf};
+ghost use lib.ListN.{getD};
+ghost use Rattle.allocation.specs.Stretch.{Ends, Grown, Room, Stands, Ahead, Assignable, Assigned, placeOf};
 
 // Where a walk ends: in the position at, of which so many contracts are passed; or past the list, with so many left.
 pub struct Stop {
@@ -18,7 +17,7 @@ pub struct Stop {
 pub fn hand(shorts: &[u32], amounts: &mut [u32], passed: Contracts, count: Contracts) -> Stop
     requires { ⌜ Room (now shorts) (now amounts) ⌝ }
     requires { ⌜ passed .0 ≤ getD (now shorts) 0 0 ⌝ }
-    ensures { λ r. ⌜ Ends (now (shorts .entry)) (passed .0 + count .0) (r .at) (r .passed .0) (r .left .0) ⌝ }
+    ensures { λ r. ⌜ Ends (now (shorts .entry)) (passed .0 + count .0) r ⌝ }
     ensures { λ r. ⌜ Grown (now (shorts .entry)) (now (amounts .entry)) (now (amounts .exit)) (passed .0) (passed .0 + count .0) ⌝ }
 {
     let mut at = 0;
@@ -49,7 +48,7 @@ pub fn hand(shorts: &[u32], amounts: &mut [u32], passed: Contracts, count: Contr
 // Passes over count contracts, after the first passed ones of the list.
 pub fn pass(shorts: &[u32], passed: Contracts, count: Contracts) -> Stop
     requires { ⌜ passed .0 ≤ getD (now shorts) 0 0 ⌝ }
-    ensures { λ r. ⌜ Ends (now (shorts .entry)) (passed .0 + count .0) (r .at) (r .passed .0) (r .left .0) ⌝ }
+    ensures { λ r. ⌜ Ends (now (shorts .entry)) (passed .0 + count .0) r ⌝ }
 {
     let mut at = 0;
     let mut skipped = passed.0;
@@ -83,7 +82,7 @@ pub struct Cursor {
 // The cursor at a place.
 pub fn seek(shorts: &[u32], place: Place) -> Cursor
     requires { ⌜ OnWheel (total (now shorts)) (place .0) ⌝ }
-    ensures { λ r. ⌜ Stands (now (shorts .entry)) 0 (place .0) (r .at) (r .passed .0) ⌝ }
+    ensures { λ r. ⌜ Stands (now (shorts .entry)) 0 (place .0) r ⌝ }
 {
     let stop = pass(shorts, Contracts(0), Contracts(place.0 - 1));
     let passed = stop.passed;
@@ -93,13 +92,11 @@ pub fn seek(shorts: &[u32], place: Place) -> Cursor
     }
 }
 
-// Assigns count contracts from the cursor on: to the end of the list, and then from the top.
+// Assigns count contracts from the cursor on: to the end of the list, and then in the part from the top, up to the position it began in.
 fn assign_round(shorts: &[u32], amounts: &mut [u32], cursor: Cursor, count: Contracts) -> Cursor
-    requires { ⌜ Small (now shorts) (now amounts) ⌝ }
-    requires { ⌜ OnList (now shorts) (cursor .at) (cursor .passed .0) ⌝ }
-    requires { ⌜ count .0 ≤ total (now shorts) ⌝ }
-    ensures { λ r. ⌜ Stands (now (shorts .entry)) (count .0) (placeOf (now (shorts .entry)) (cursor .at) (cursor .passed .0)) (r .at) (r .passed .0) ⌝ }
-    ensures { λ r. ⌜ Assigned (now (shorts .entry)) (now (amounts .entry)) (now (amounts .exit)) (run (total (now (shorts .entry))) (count .0) (placeOf (now (shorts .entry)) (cursor .at) (cursor .passed .0))) ⌝ }
+    requires { ⌜ Assignable (now shorts) (now amounts) cursor (count .0) ⌝ }
+    ensures { λ r. ⌜ Stands (now (shorts .entry)) (count .0) (placeOf (now (shorts .entry)) cursor) r ⌝ }
+    ensures { λ r. ⌜ Assigned (now (shorts .entry)) (now (amounts .entry)) (now (amounts .exit)) (run (total (now (shorts .entry))) (count .0) (placeOf (now (shorts .entry)) cursor)) ⌝ }
 {
     let at = cursor.at;
     let passed = cursor.passed;
@@ -112,19 +109,18 @@ fn assign_round(shorts: &[u32], amounts: &mut [u32], cursor: Cursor, count: Cont
             passed,
         };
     }
+    let end = at + 1;
     let left = stop.left;
-    let top = hand(shorts, amounts, Contracts(0), left);
+    let top = hand(&shorts[..end], &mut amounts[..end], Contracts(0), left);
     let passed = top.passed;
     Cursor { at: top.at, passed }
 }
 
 // Assigns count contracts from the cursor on; the cursor after them. Most runs end in the position they begin in.
 pub fn assign_run(shorts: &[u32], amounts: &mut [u32], cursor: Cursor, count: Contracts) -> Cursor
-    requires { ⌜ Small (now shorts) (now amounts) ⌝ }
-    requires { ⌜ OnList (now shorts) (cursor .at) (cursor .passed .0) ⌝ }
-    requires { ⌜ count .0 ≤ total (now shorts) ⌝ }
-    ensures { λ r. ⌜ Stands (now (shorts .entry)) (count .0) (placeOf (now (shorts .entry)) (cursor .at) (cursor .passed .0)) (r .at) (r .passed .0) ⌝ }
-    ensures { λ r. ⌜ Assigned (now (shorts .entry)) (now (amounts .entry)) (now (amounts .exit)) (run (total (now (shorts .entry))) (count .0) (placeOf (now (shorts .entry)) (cursor .at) (cursor .passed .0))) ⌝ }
+    requires { ⌜ Assignable (now shorts) (now amounts) cursor (count .0) ⌝ }
+    ensures { λ r. ⌜ Stands (now (shorts .entry)) (count .0) (placeOf (now (shorts .entry)) cursor) r ⌝ }
+    ensures { λ r. ⌜ Assigned (now (shorts .entry)) (now (amounts .entry)) (now (amounts .exit)) (run (total (now (shorts .entry))) (count .0) (placeOf (now (shorts .entry)) cursor)) ⌝ }
 {
     let at = cursor.at;
     let passed = cursor.passed;
@@ -138,11 +134,10 @@ pub fn assign_run(shorts: &[u32], amounts: &mut [u32], cursor: Cursor, count: Co
     assign_round(shorts, amounts, cursor, count)
 }
 
-// Passes over count contracts from the cursor on: to the end of the list, and then from the top.
+// Passes over count contracts from the cursor on: to the end of the list, and then in the part from the top, up to the position it began in.
 fn skip_round(shorts: &[u32], cursor: Cursor, count: Contracts) -> Cursor
-    requires { ⌜ OnList (now shorts) (cursor .at) (cursor .passed .0) ⌝ }
-    requires { ⌜ count .0 ≤ total (now shorts) ⌝ }
-    ensures { λ r. ⌜ Stands (now (shorts .entry)) (count .0) (placeOf (now (shorts .entry)) (cursor .at) (cursor .passed .0)) (r .at) (r .passed .0) ⌝ }
+    requires { ⌜ Ahead (now shorts) cursor (count .0) ⌝ }
+    ensures { λ r. ⌜ Stands (now (shorts .entry)) (count .0) (placeOf (now (shorts .entry)) cursor) r ⌝ }
 {
     let at = cursor.at;
     let passed = cursor.passed;
@@ -155,17 +150,17 @@ fn skip_round(shorts: &[u32], cursor: Cursor, count: Contracts) -> Cursor
             passed,
         };
     }
+    let end = at + 1;
     let left = stop.left;
-    let top = pass(shorts, Contracts(0), left);
+    let top = pass(&shorts[..end], Contracts(0), left);
     let passed = top.passed;
     Cursor { at: top.at, passed }
 }
 
 // The cursor count contracts further on.
 pub fn skip_run(shorts: &[u32], cursor: Cursor, count: Contracts) -> Cursor
-    requires { ⌜ OnList (now shorts) (cursor .at) (cursor .passed .0) ⌝ }
-    requires { ⌜ count .0 ≤ total (now shorts) ⌝ }
-    ensures { λ r. ⌜ Stands (now (shorts .entry)) (count .0) (placeOf (now (shorts .entry)) (cursor .at) (cursor .passed .0)) (r .at) (r .passed .0) ⌝ }
+    requires { ⌜ Ahead (now shorts) cursor (count .0) ⌝ }
+    ensures { λ r. ⌜ Stands (now (shorts .entry)) (count .0) (placeOf (now (shorts .entry)) cursor) r ⌝ }
 {
     let at = cursor.at;
     let passed = cursor.passed;

@@ -9,12 +9,10 @@ use crate::places::skip_run;
 use series::Contracts;
 use series::Place;
 ghost use mathlib.Core.Path.{_≡_};
-ghost use Prim.Native.Nat.{_+_, _-_, _*_, _≤_, _<_};
-ghost use Rattle.series.specs.Places.{total as totalOf, OnWheel};
-ghost use Rattle.series.specs.Wheel.{ONE, wheel, blocks as blocksOf, blocksUsed};
-ghost use Rattle.allocation.specs.Stretch.{Listed, Small, OnList, Assigned, placeOf};
-ghost use Rattle.allocation.specs.Millionths.{millionths};
-ghost use Rattle.allocation.specs.Turn.{Increment, Ready, Skipped, Blocks, marksFrom};
+ghost use Prim.Native.Nat.{_-_, _*_};
+ghost use Rattle.series.specs.Wheel.{wheel, blocks as blocksOf, blocksUsed};
+ghost use Rattle.allocation.specs.Stretch.{Assigned};
+ghost use Rattle.allocation.specs.Blocks.{Increment, Ready, Skipped, BlocksFit, WheelCall, marksFrom};
 
 // Where the wheel stands, with its skip interval and the reserve.
 pub struct Wheel {
@@ -26,10 +24,8 @@ pub struct Wheel {
 impl Wheel {
     // One skip: skip interval plus reserve, the whole part of it skipped, the decimals left over reserved.
     pub fn skip(mut self, shorts: &[u32]) -> Self
-        requires { ⌜ self .interval .decimals < ONE ⌝ }
-        requires { ⌜ Ready (now shorts) (self .cursor .at) (self .cursor .passed .0) (millionths (self .interval)) (millionths (self .reserve)) ⌝ }
-        ensures { λ r. ⌜ r .interval ≡ self .interval ⌝ }
-        ensures { λ r. ⌜ Skipped (now (shorts .entry)) (self .cursor .at) (self .cursor .passed .0) (millionths (self .interval) + millionths (self .reserve)) (r .cursor .at) (r .cursor .passed .0) (millionths (r .reserve)) ⌝ }
+        requires { ⌜ Ready (now shorts) self ⌝ }
+        ensures { λ r. ⌜ Skipped (now (shorts .entry)) self r ⌝ }
     {
         let interval = self.interval;
         let reserve = self.reserve;
@@ -42,7 +38,7 @@ impl Wheel {
 }
 
 // Assigns blocks of contracts from the wheel's place on, all of them increment contracts but the last.
-fn turn(
+fn assign_blocks(
     shorts: &[u32],
     amounts: &mut [u32],
     start: Wheel,
@@ -50,10 +46,8 @@ fn turn(
     increment: Contracts,
     last: Contracts,
 )
-    requires { ⌜ start .interval .decimals < ONE ⌝ }
-    requires { ⌜ Small (now shorts) (now amounts) ⌝ }
-    requires { ⌜ Blocks (now shorts) (now amounts) (start .cursor .at) (start .cursor .passed .0) (millionths (start .interval)) (millionths (start .reserve)) blocks (increment .0) (last .0) ⌝ }
-    ensures { λ _. ⌜ Assigned (now (shorts .entry)) (now (amounts .entry)) (now (amounts .exit)) (marksFrom (now (shorts .entry)) (start .cursor .at) (start .cursor .passed .0) (millionths (start .interval)) (millionths (start .reserve)) blocks (increment .0) (last .0)) ⌝ }
+    requires { ⌜ BlocksFit (now shorts) (now amounts) start blocks (increment .0) (last .0) ⌝ }
+    ensures { λ _. ⌜ Assigned (now (shorts .entry)) (now (amounts .entry)) (now (amounts .exit)) (marksFrom (now (shorts .entry)) start blocks (increment .0) (last .0)) ⌝ }
 {
     let mut wheel = start;
     let mut block = 1;
@@ -93,11 +87,7 @@ pub fn assign(
     increment: Contracts,
     amounts: &mut [u32],
 ) -> u32
-    requires { ⌜ Listed (now shorts) (now amounts) ⌝ }
-    requires { ⌜ total .0 ≡ totalOf (now shorts) ⌝ }
-    requires { ⌜ exercised .0 ≤ total .0 ⌝ }
-    requires { ⌜ Increment (increment .0) (exercised .0) ⌝ }
-    requires { ⌜ OnWheel (total .0) (start .0) ⌝ }
+    requires { ⌜ WheelCall (now shorts) (now amounts) (total .0) (exercised .0) (start .0) (increment .0) ⌝ }
     ensures { λ r. ⌜ r ≡ blocksUsed (increment .0) (total .0) (exercised .0) ⌝ }
     ensures { λ _. ⌜ now (amounts .exit) ≡ wheel (increment .0) (now (shorts .entry)) (exercised .0) (start .0) ⌝ }
 {
@@ -113,6 +103,6 @@ pub fn assign(
         interval: Millionths::interval(total, blocks, increment),
         reserve: Millionths::zero(),
     };
-    turn(shorts, amounts, first, blocks, increment, last);
+    assign_blocks(shorts, amounts, first, blocks, increment, last);
     blocks
 }

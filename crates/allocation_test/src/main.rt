@@ -1,11 +1,104 @@
-// Calls of the allocating call, a line for each: a label, the answer, and every element of an output that held 7 eight times.
-mod print;
-
-use print::lottery;
-use print::pro_rata;
-use print::show;
-use print::wheel;
+// Calls of the allocating call, a line for each: a label, the answer, and every element of an output that held 7 eight times. Then lists and calls that are only judged.
+use allocation::allocate;
+use judging::Judged;
+use judging::judge;
+use judging::judge_list;
+use series::Answer;
+use series::Contracts;
 use series::Method;
+use series::Refusal;
+use series::Terms;
+ghost use Prim.Native.Nat.{_≤_};
+
+fn print(text: &[u8]) {
+    io::write_all(libc::STDOUT_FILENO, text);
+}
+
+fn print_number(n: u32) {
+    print(b" ");
+    io::print_decimal(libc::STDOUT_FILENO, n as u64);
+}
+
+fn print_refusal(refusal: Refusal) {
+    print(b" refused");
+    print_number(series::number(refusal));
+}
+
+// An allocation: the method's letter, T and the further number.
+fn print_allocation(letter: &[u8], total: Contracts, further: u32) {
+    print(letter);
+    print_number(total.0);
+    print_number(further);
+}
+
+fn print_answer(answer: Answer) {
+    match answer {
+        Answer::Wheel { total, blocks } => print_allocation(b" W", total, blocks),
+        Answer::ProRata { total, remainder } => print_allocation(b" P", total, remainder.0),
+        Answer::Lottery { total, start } => print_allocation(b" L", total, start.0),
+        Answer::Refused(refusal) => print_refusal(refusal),
+    }
+}
+
+fn print_list(list: &[u32; 8]) {
+    let mut i = 0;
+    while i < 8 {
+        print_number(list[i]);
+        i += 1;
+    }
+}
+
+// Makes a call that is lent the first room elements of the output, and prints all of them.
+fn show(label: &[u8], terms: Terms, accounts: &[u32], shorts: &[u32], room: usize)
+    requires { ⌜ room ≤ 8 ⌝ }
+{
+    let mut amounts = [7u32; 8];
+    print(label);
+    print(b":");
+    let answer = allocate(terms, accounts, shorts, &mut amounts[..room]);
+    print_answer(answer);
+    print(b" :");
+    print_list(&amounts);
+    print(b"\n");
+}
+
+fn terms(method: Method, exercised: u32, draw: u32) -> Terms {
+    Terms {
+        method,
+        exercised: Contracts(exercised),
+        draw,
+    }
+}
+
+fn wheel(label: &[u8], accounts: &[u32], shorts: &[u32], exercised: u32, draw: u32) {
+    show(
+        label,
+        terms(Method::Wheel, exercised, draw),
+        accounts,
+        shorts,
+        8,
+    );
+}
+
+fn pro_rata(label: &[u8], accounts: &[u32], shorts: &[u32], exercised: u32, draw: u32) {
+    show(
+        label,
+        terms(Method::ProRata, exercised, draw),
+        accounts,
+        shorts,
+        8,
+    );
+}
+
+fn lottery(label: &[u8], accounts: &[u32], shorts: &[u32], exercised: u32, draw: u32) {
+    show(
+        label,
+        terms(Method::Lottery, exercised, draw),
+        accounts,
+        shorts,
+        8,
+    );
+}
 
 // The starred series under W.
 fn wheel_series() {
@@ -48,11 +141,9 @@ fn whole() {
     pro_rata(b"P, S is T", &accounts, &shorts, 36, 0);
     show(
         b"no room to spare",
-        Method::Wheel,
+        terms(Method::Wheel, 30, 36),
         &accounts,
         &shorts,
-        30,
-        36,
         5,
     );
 }
@@ -76,9 +167,9 @@ fn largest() {
 // Refusals of the list's length.
 fn lengths() {
     wheel(b"1", &[1, 2], &[1], 1, 1);
-    show(b"1 before 4", Method::Wheel, &[1], &[1, 1], 1, 1, 1);
-    show(b"4", Method::Wheel, &[1, 2, 3], &[5, 3, 2], 4, 1, 2);
-    show(b"4 before 5", Method::Wheel, &[0], &[1], 1, 1, 0);
+    show(b"1 before 4", terms(Method::Wheel, 1, 1), &[1], &[1, 1], 1);
+    show(b"4", terms(Method::Wheel, 4, 1), &[1, 2, 3], &[5, 3, 2], 2);
+    show(b"4 before 5", terms(Method::Wheel, 1, 1), &[0], &[1], 0);
 }
 
 // The same of lists of 0, 4,096 and 4,097 positions.
@@ -141,6 +232,94 @@ fn draws() {
     lottery(b"10, L, draw above 10000", &[1], &[36], 1, 10001);
 }
 
+// What judging answers, to the end of the line.
+fn print_judged(judged: Judged) {
+    match judged {
+        Judged::Accepted(total) => {
+            print(b" T");
+            print_number(total.0);
+        }
+        Judged::Refused(refusal) => print_refusal(refusal),
+    }
+    print(b"\n");
+}
+
+// Judges a list alone.
+fn show_list(label: &[u8], accounts: &[u32], shorts: &[u32]) {
+    print(label);
+    print(b":");
+    print_judged(judge_list(accounts, shorts));
+}
+
+// Judges a whole call.
+fn show_judged(label: &[u8], terms: Terms, accounts: &[u32], shorts: &[u32], room: usize) {
+    print(label);
+    print(b":");
+    print_judged(judge(terms, accounts, shorts, room));
+}
+
+// Lists judged alone: accepted, and refused by their length.
+fn lists() {
+    let accounts = [1u32; 4097];
+    let shorts = [1u32; 4097];
+    show_list(b"list", &[1, 2, 3], &[5, 3, 2]);
+    show_list(b"list, largest T", &[1, 4_294_967_295], &[9_999_999, 1]);
+    show_list(b"list, 1", &[1, 2], &[1]);
+    show_list(b"list, 1 before 2", &accounts, &shorts[..4096]);
+    show_list(b"list, 2", &accounts, &shorts);
+    show_list(b"list, 5 and not 2", &accounts[..4096], &shorts[..4096]);
+    show_list(b"list, 3", &accounts[..0], &shorts[..0]);
+}
+
+// Lists refused by a position.
+fn list_positions() {
+    show_list(b"list, 5, account 0", &[0], &[1]);
+    show_list(b"list, 5, account twice", &[1, 1], &[1, 1]);
+    show_list(b"list, 5, account below", &[2, 1], &[1, 1]);
+    show_list(b"list, 6", &[1, 2], &[1, 0]);
+    show_list(b"list, 7", &[1, 2], &[10_000_000, 1]);
+}
+
+// The same list judged with a call and no output, with room for it, and with an S and a draw that refuse.
+fn judged() {
+    show_list(b"list and no 4", &[1, 2, 3], &[5, 3, 2]);
+    show_judged(
+        b"call, 4",
+        terms(Method::Wheel, 4, 1),
+        &[1, 2, 3],
+        &[5, 3, 2],
+        0,
+    );
+    show_judged(
+        b"call, 4 before 9",
+        terms(Method::Wheel, 11, 1),
+        &[1, 2, 3],
+        &[5, 3, 2],
+        2,
+    );
+    show_judged(
+        b"call",
+        terms(Method::Wheel, 4, 1),
+        &[1, 2, 3],
+        &[5, 3, 2],
+        3,
+    );
+    show_judged(
+        b"call, 9",
+        terms(Method::Wheel, 11, 1),
+        &[1, 2, 3],
+        &[5, 3, 2],
+        3,
+    );
+    show_judged(
+        b"call, 10",
+        terms(Method::Wheel, 4, 11),
+        &[1, 2, 3],
+        &[5, 3, 2],
+        3,
+    );
+}
+
 fn main() {
     wheel_series();
     pro_rata_series();
@@ -153,4 +332,7 @@ fn main() {
     shorts();
     exercised();
     draws();
+    lists();
+    list_positions();
+    judged();
 }

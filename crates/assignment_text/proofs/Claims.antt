@@ -2,17 +2,19 @@
 use Prim.Native.String.{String}
 use mathlib.Core.Path.{_≡_, refl}
 use mathlib.Core.List.{List, [], _∷_, map}
+use Rattle.series.specs.Ascii.{ascii}
 use Rattle.series.specs.Sums.{bit, listed}
 use Rattle.series.specs.Places.{total, next, run, within, marked, before, last, amounts}
 use Rattle.series.specs.Lottery.{startingPlace, lottery}
-use Rattle.series.specs.Refusals.{first, lengthRows, positionRows, exercisedRows, outside, drawRows, rows, verdict}
+use Rattle.series.specs.Refusals.{first, lengthRows, roomRows, positionRows, exercisedRows, outside, drawRows, listRows, rows, verdict}
 use Rattle.series.specs.Call.{assigned}
-use Rattle.series_text.specs.Ascii.{ascii}
 use Rattle.series_text.specs.Numbers.{digit, digits, spelled, amountFrom, amount, numeral, number, decimalIn, decimal}
-use Rattle.series_text.specs.Text.{Text, termsNames, positionNames, after, ends, field, past, fieldBy, numberBy, letter, methodBy, method, readTerms, readPosition, readPositions, readHead, readText, writeNumber, writePosition, writePositions}
-use Rattle.series_text.specs.Calls.{positionsOf}
-use Rattle.series_text.specs.Tables.{tableText, noteText}
-use Rattle.assignment_text.specs.Printed.{refusedLines, assignedLines, accountsOf, shortsOf, verdictLines, seriesVerdict, seriesLines, readingLines, printed}
+use Rattle.series_text.specs.Fields.{Text, ends, field, past, fieldBy, endBefore, readFields, writeNumber}
+use Rattle.series_text.specs.Rows.{numbers, readRow, readRows, writeRow, writeRows, rowsOf, column}
+use Rattle.series_text.specs.Names.{namesLine, afterLine, headingOr, readNames}
+use Rattle.series_text.specs.Letters.{letter, methodBy, methodOf}
+use Rattle.series_text.specs.Text.{readTerms, readHead, readText}
+use Rattle.assignment_text.specs.Printed.{refusedLines, assignedLines, seriesOrRefusal, textOrRefusal, linesFor, printed}
 
 -- a text, and what is printed for it
 pub record Case : Type 0 where
@@ -38,7 +40,7 @@ cases =
 
 -- the line `unfolding` names every definition that printing computes with
 printing : Text → Text
-unfolding bit listed total next run within marked before last amounts startingPlace lottery first lengthRows positionRows exercisedRows outside drawRows rows verdict assigned digit digits spelled amountFrom amount numeral number decimalIn decimal termsNames positionNames after ends field past fieldBy numberBy letter methodBy method readTerms readPosition readPositions readHead readText writeNumber writePosition writePositions positionsOf tableText noteText refusedLines assignedLines accountsOf shortsOf verdictLines seriesVerdict seriesLines readingLines printed ascii
+unfolding bit listed total next run within marked before last amounts startingPlace lottery first lengthRows roomRows positionRows exercisedRows outside drawRows listRows rows verdict assigned digit digits spelled amountFrom amount numeral number decimalIn decimal ends field past fieldBy endBefore readFields writeNumber numbers readRow readRows writeRow writeRows rowsOf column namesLine afterLine headingOr readNames letter methodBy methodOf readTerms readHead readText refusedLines assignedLines seriesOrRefusal textOrRefusal linesFor printed ascii
 printing s = printed s
 
 pub known : map (λ c. printed (c .input)) cases ≡ map (λ c. c .output) cases

@@ -1,131 +1,135 @@
 -- What is printed, from what the parts of the call answered.
-use Prim.Native.Nat.{ℕ, _≤_}
+use Prim.Native.Nat.{ℕ, _≤_, _<_}
 use mathlib.Core.Path.{_≡_, refl, sym, ap, _∙_}
-use mathlib.Core.Bool.{Bool, true, false}
-use mathlib.Core.List.{List, [], _∷_, append-nil}
+use mathlib.Core.Bool.{Bool, true, false, cond}
+use mathlib.Core.List.{List, [], _∷_, _++_, append-nil}
 use mathlib.Core.Logic.{⊎-elim}
 use native.Mathlib.Omega.{arith}
-use borrow.Author.Tests.{eq-eqb, le-ltb, ltb-false}
+use borrow.Author.Tests.{eq-eqb, le-ltb}
 use denote.Enum.Declared.{tagOf}
 use types.Run.{OneOf}
 use lib.Dec.{ltb}
 use lib.ListN.{length, drop}
 use lib.Seq.{drop-length}
-use Rattle.series.specs.Answers.{allocation, refusal, numberOf, outcomeOf}
-use Rattle.series.specs.Refusals.{Verdict, accepted, refused, verdict}
-use Rattle.series.specs.Call.{assigned, answerTo, outputTo, answer, output}
-use Rattle.series.specs.declared.Method.{Method}
+use Rattle.series.specs.Ascii.{ascii}
+use Rattle.series.specs.Results.{Result, refused, value, _>>=_, refuse, after, status}
+use Rattle.series.specs.Outputs.{onto, ontoRoom}
+use Rattle.series.specs.Sums.{listed}
+use Rattle.series.specs.Series.{Series, method}
+use Rattle.series.specs.Answers.{Allocation, numberOf, answerOf}
+use Rattle.series.specs.Refusals.{verdict}
+use Rattle.series.specs.Call.{assigned, further, answer, output}
 use Rattle.series.specs.declared.Refusal.{Refusal}
 use Rattle.series.specs.declared.Answer.{Answer}
 use Rattle.series.proofs.Answer.{the-type}
-use Rattle.series_text.specs.Ascii.{ascii}
-use Rattle.series_text.specs.Results.{value, refuse}
-use Rattle.series_text.specs.Results as Results
-use Rattle.series_text.specs.Text.{Text, Series, MOST, readText}
-use Rattle.series_text.specs.Calls.{writingOf, lengthOf, textAfter}
-use Rattle.series_text.specs.Tables.{tableInto, noteInto}
-use Rattle.series_text.specs.declared.Writing.{Writing}
-use Rattle.series_text.proofs.PositionLaws.{accounts-of, shorts-of, length-positions}
+use Rattle.series.proofs.ResultLaws.{never, value-is}
+use Rattle.series.proofs.Demand3.{length-assigned}
+use Rattle.series_text.specs.Fields.{Text}
+use Rattle.series_text.specs.Rows.{writeRow, writeRows, rowsOf}
+use Rattle.series_text.specs.Text.{MOST_LINES, readText}
+use Rattle.text_writing.specs.Answers.{writingOf}
+use Rattle.series_text.specs.Calls.{lengthOf, evenly, lineCount, linesInto, tableInto, noteInto}
+use Rattle.text_writing.specs.declared.Writing.{Writing}
+use Rattle.assignment_text.specs.Printed.{refusedLines, assignedLines, seriesOrRefusal, textOrRefusal, linesFor, printed}
+use Rattle.assignment_text.specs.Responses.{Printing, responseOf, printInto, Responds}
 use Rattle.assignment_text.specs.declared.Response.{Response}
-use Rattle.assignment_text.specs.declared.Response.the-variants.{TooShort}
-use Rattle.assignment_text.specs.Printed.{refusedLines, assignedLines, seriesOf, accountsOf, shortsOf, verdictLines, seriesVerdict, seriesLines, readingLines, printed, readingVerdict, textVerdict, textInto, printInto}
-use Rattle.assignment_text.specs.Responses.{responseOf, Tells, Responds}
 
 -- ---- writing a text
 
-only-short : (b : Bool) (s : Text) (n : ℕ) → Results.refused n ≡ lengthOf (refuse b 4 s) → Results.refused 4 ≡ lengthOf (refuse b 4 s)
+-- writing the text s alone: 4 where the output is shorter
+abbrev pub textInto : Text → ℕ → Result Text
+textInto s room = refuse (ltb room (length s)) 4 s
+
+written-is : (b : Bool) (s old : Text) → after (refuse b 4 s) (λ t. onto t old) old ≡ cond b old (onto s old)
+written-is true s old = refl
+written-is false s old = refl
+
+abbrev handing : ℕ → ℕ → Printing
+handing n v = record { written = n; refusal = v }
+
+short-is : (b : Bool) (s : Text) (n v : ℕ) → refused n ≡ lengthOf (refuse b 4 s) → handing 0 4 ≡ cond b (handing 0 4) (handing (length s) v)
 unfolding lengthOf
-only-short true s n e = refl
-only-short false s n e = let z : _≡_ {A = ℕ} 0 1 = cc in absurd (omega arith)
+short-is true s n v e = refl
+short-is false s n v e = absurd (never n (length s) e)
 
--- s is written, and the writer answered w
-module _ (v : Verdict) (s old new : Text) (w : Writing) (hands : writingOf w ≡ lengthOf (textInto s (length old))) (out : new ≡ textAfter (textInto s (length old)) old) where
-  pub print-short : (q : Refusal) → w ≡ Writing.Refused q → Responds TooShort v s old new
-  unfolding textInto
-  print-short q e = record { hands = only-short (ltb (length old) (length s)) s (numberOf q) (ap writingOf (sym e) ∙ hands); output = out; tells = tt }
+all-is : (b : Bool) (s : Text) (n v : ℕ) → value n ≡ lengthOf (refuse b 4 s) → handing n v ≡ cond b (handing 0 4) (handing (length s) v)
+unfolding lengthOf
+all-is true s n v e = absurd (never 4 n (sym e))
+all-is false s n v e = let is : n ≡ length s = cc in ap (λ k. handing k v) is
 
-  pub print-all : (r : Response) (n : ℕ) → w ≡ Writing.Written n → responseOf r ≡ value n → Tells r v → Responds r v s old new
-  print-all r n e is t = record { hands = is ∙ ap writingOf (sym e) ∙ hands; output = out; tells = t }
+-- s is written, and the writer answered w; v is the refusal that s tells, or 0
+module _ (v : ℕ) (s old new : Text) (w : Writing) (hands : writingOf w ≡ lengthOf (textInto s (length old))) (out : new ≡ after (textInto s (length old)) (λ t. onto t old) old) where
+  output-is : new ≡ ontoRoom s old
+  unfolding ontoRoom
+  output-is = out ∙ written-is (ltb (length old) (length s)) s old
+
+  pub print-short : (q : Refusal) → w ≡ Writing.Refused q → Responds (Response.Refused 0 Refusal.OutputTooShort) s v old new
+  unfolding printInto
+  print-short q e = record { hands = short-is (ltb (length old) (length s)) s (numberOf q) v (ap writingOf (sym e) ∙ hands); output = output-is }
+
+  pub print-all : (r : Response) (n : ℕ) → w ≡ Writing.Written n → responseOf r ≡ handing n v → Responds r s v old new
+  unfolding printInto
+  print-all r n e is = record { hands = is ∙ all-is (ltb (length old) (length s)) s n v (ap writingOf (sym e) ∙ hands); output = output-is }
 
 pub note-is : (n room : ℕ) → noteInto (ascii "refused\n") n room ≡ textInto (refusedLines n) room
-unfolding noteInto textInto refusedLines
-note-is n room = refl
+unfolding noteInto linesInto evenly lineCount refusedLines rowsOf listed writeRows
+note-is n room = rw append-nil refl
 
-pub table-is : (accounts amounts : List ℕ) (room : ℕ) → length accounts ≡ length amounts → length accounts ≤ MOST → tableInto (ascii "account,assigned\n") accounts amounts room ≡ textInto (assignedLines accounts amounts) room
-unfolding tableInto textInto assignedLines
-table-is accounts amounts room same few = rw (eq-eqb (length accounts) (length amounts) same, le-ltb MOST (length accounts) few)
+pub table-is : (accounts amounts : List ℕ) (room : ℕ) → length accounts ≡ length amounts → length accounts ≤ MOST_LINES → tableInto (ascii "account,assigned\n") accounts amounts room ≡ textInto (assignedLines accounts amounts) room
+unfolding tableInto linesInto evenly lineCount assignedLines
+table-is accounts amounts room same few =
+    rw (eq-eqb (length accounts) (length accounts) refl, eq-eqb (length amounts) (length accounts) (sym same), le-ltb MOST_LINES (length accounts) few)
 
 -- ---- the allocating call
 
-module _ (m : Method) (S draw : ℕ) (accounts hs : List ℕ) (same : length accounts ≡ length hs) where
-  verdict-is : seriesVerdict (seriesOf m S draw accounts hs) ≡ verdict m accounts hs S draw (length hs)
-  unfolding seriesVerdict seriesOf accountsOf shortsOf
-  verdict-is = rw (accounts-of accounts hs same, shorts-of accounts hs same, length-positions accounts hs same, same)
+module _ (s : Series) where
+  -- what the call hands back
+  abbrev allocation : ℕ → Allocation
+  allocation T = record { method = method s; total = T; further = further s }
 
-  refused-is : (v : Verdict) (n : ℕ) → refusal n ≡ answerTo v m hs S draw → v ≡ refused n
-  unfolding answerTo
-  refused-is accepted n e = let z : _≡_ {A = ℕ} 0 1 = cc in absurd (omega arith)
-  refused-is (refused k) n e = cc
-
-  accepted-is : (v : Verdict) (T f : ℕ) → allocation T f ≡ answerTo v m hs S draw → v ≡ accepted
-  unfolding answerTo
-  accepted-is accepted T f e = refl
-  accepted-is (refused k) T f e = let z : _≡_ {A = ℕ} 0 1 = cc in absurd (omega arith)
+  refused-is : (v : Result ℕ) (n : ℕ) → _≡_ {A = Result Allocation} (refused n) (v >>= (λ T. value (allocation T))) → (v >>= (λ T. value s)) ≡ refused n
+  refused-is (value T) n e = absurd (never n _ e)
+  refused-is (refused k) n e = let same : k ≡ n = cc in ap refused same
 
   -- the call answered with a refusal
-  pub turned-away : (r : Response) (old new : Text) (n : ℕ) → refusal n ≡ answer m accounts hs S draw (length hs) → Responds r (refused n) (refusedLines n) old new
-      → Responds r (seriesVerdict (seriesOf m S draw accounts hs)) (seriesLines (seriesOf m S draw accounts hs)) old new
-  unfolding answer seriesLines verdictLines
-  turned-away r old new n e p =
-      let v : seriesVerdict (seriesOf m S draw accounts hs) ≡ refused n = verdict-is ∙ refused-is (verdict m accounts hs S draw (length hs)) n e in
-      rw v p
+  pub turned-away : (r : Response) (old new : Text) (n : ℕ) → refused n ≡ answer s (length (s .shorts)) → Responds r (refusedLines n) n old new → Responds r (linesFor (seriesOrRefusal s)) (status (seriesOrRefusal s)) old new
+  unfolding answer seriesOrRefusal linesFor
+  turned-away r old new n e p = rw (refused-is (verdict s (length (s .shorts))) n e) p
 
-  -- the call answered with an allocation, whose tag is 0, 1 or 2
-  is-accepted : (a : Answer) → OneOf (0 ∷ 1 ∷ 2 ∷ []) (tagOf the-type a) → (v : Verdict) → outcomeOf a ≡ answerTo v m hs S draw → v ≡ accepted
-  is-accepted (Answer.Wheel T b) k v e = accepted-is v (T .0) b e
-  is-accepted (Answer.ProRata T l) k v e = accepted-is v (T .0) (l .0) e
-  is-accepted (Answer.Lottery T p) k v e = accepted-is v (T .0) (p .0) e
-  is-accepted (Answer.Refused q) k v e = absurd (⊎-elim (λ z. omega arith) (⊎-elim (λ z. omega arith) (λ z. omega arith)) k)
+  is-value : (v : Result ℕ) (x : Allocation) → value x ≡ (v >>= (λ T. value (allocation T))) → v ≡ value (x .total)
+  is-value (value T) x e = let is : allocation T ≡ x = value-is (sym e) in ap value (ap (λ (y : Allocation). y .total) is)
+  is-value (refused k) x e = absurd (never k x (sym e))
 
-  module _ (a : Answer) (k : OneOf (0 ∷ 1 ∷ 2 ∷ []) (tagOf the-type a)) (e : outcomeOf a ≡ answer m accounts hs S draw (length hs)) where
-    accepted-verdict : verdict m accounts hs S draw (length hs) ≡ accepted
+  -- an answer that is an allocation, whose tag is 0, 1 or 2
+  allocation-in : (a : Answer) → OneOf (0 ∷ 1 ∷ 2 ∷ []) (tagOf the-type a) → (x : Allocation) × (answerOf a ≡ value x)
+  allocation-in (Answer.Wheel T b) k = (_, refl)
+  allocation-in (Answer.ProRata T l) k = (_, refl)
+  allocation-in (Answer.Lottery T p) k = (_, refl)
+  allocation-in (Answer.Refused q) k = absurd (⊎-elim (λ z. omega arith) (⊎-elim (λ z. omega arith) (λ z. omega arith)) k)
+
+  -- the call answered with an allocation
+  module _ (a : Answer) (k : OneOf (0 ∷ 1 ∷ 2 ∷ []) (tagOf the-type a)) (e : answerOf a ≡ answer s (length (s .shorts))) where
+    accepted : verdict s (length (s .shorts)) ≡ value (allocation-in a k .0 .total)
     unfolding answer
-    accepted-verdict = is-accepted a k (verdict m accounts hs S draw (length hs)) e
+    accepted = is-value (verdict s (length (s .shorts))) (allocation-in a k .0) (sym (allocation-in a k .1) ∙ e)
 
     -- the output holds the amounts alone
-    pub amounts-are : (old new : List ℕ) → length old ≡ length hs → new ≡ output m accounts hs S draw old → new ≡ assigned m hs S draw
-    unfolding output outputTo
+    pub amounts-are : (old new : List ℕ) → length old ≡ length (s .shorts) → new ≡ output s old → new ≡ assigned s
+    unfolding output onto
     amounts-are old new l is =
-        let none : drop (length hs) old ≡ [] = rw (← l) (drop-length old) in
-        is ∙ rw (l, accepted-verdict, none) (append-nil (assigned m hs S draw))
+        let none : drop (length (assigned s)) old ≡ [] = rw (length-assigned s, ← l) (drop-length old) in
+        is ∙ rw (l, accepted, none) (append-nil (assigned s))
 
-    pub allocated : (r : Response) (old new : Text) → Responds r accepted (assignedLines accounts (assigned m hs S draw)) old new
-        → Responds r (seriesVerdict (seriesOf m S draw accounts hs)) (seriesLines (seriesOf m S draw accounts hs)) old new
-    unfolding seriesLines verdictLines seriesOf accountsOf shortsOf
-    allocated r old new p =
-        let v : seriesVerdict (seriesOf m S draw accounts hs) ≡ accepted = verdict-is ∙ accepted-verdict in
-        rw (v, accounts-of accounts hs same, shorts-of accounts hs same) p
+    pub assigned-all : (r : Response) (old new : Text) → Responds r (assignedLines (s .accounts) (assigned s)) 0 old new → Responds r (linesFor (seriesOrRefusal s)) (status (seriesOrRefusal s)) old new
+    unfolding seriesOrRefusal linesFor
+    assigned-all r old new p = rw accepted p
 
 -- ---- the whole call
 
--- its three clauses
-abbrev pub Promised : Text → Response → Text → Text → Type 0
-Promised s r old new = (responseOf r ≡ lengthOf (printInto s (length old))) × ((new ≡ textAfter (printInto s (length old)) old) × Tells r (textVerdict s))
+pub text-refused : (s : Text) (r : Response) (old new : Text) (n : ℕ) → readText s ≡ refused n → Responds r (refusedLines n) n old new → Responds r (printed s) (status (textOrRefusal s)) old new
+unfolding printed textOrRefusal linesFor
+text-refused s r old new n e p = rw e p
 
-pub text-refused : (s : Text) (r : Response) (old new : Text) (n : ℕ) → readText s ≡ Results.refused n → Responds r (refused n) (refusedLines n) old new → Promised s r old new
-unfolding printInto printed readingLines textVerdict readingVerdict
-text-refused s r old new n e p = rw e (p .hands, (p .output, p .tells))
-
-pub text-read : (s : Text) (r : Response) (old new : Text) (t : Series) → readText s ≡ value t → Responds r (seriesVerdict t) (seriesLines t) old new → Promised s r old new
-unfolding printInto printed readingLines textVerdict readingVerdict
-text-read s r old new t e p = rw e (p .hands, (p .output, p .tells))
-
-within : (b : Bool) (s : Text) (room n : ℕ) → ltb room (length s) ≡ b → value n ≡ lengthOf (refuse b 4 s) → n ≤ room
-unfolding lengthOf
-within true s room n t e = let z : _≡_ {A = ℕ} 0 1 = cc in absurd (omega arith)
-within false s room n t e = let is : n ≡ length s = cc in omega (arith, ltb-false room (length s) t)
-
--- the bytes that are printed lie within the output
-pub printed-within : (s : Text) (r : Response) (room n : ℕ) → responseOf r ≡ value n → responseOf r ≡ lengthOf (printInto s room) → n ≤ room
-unfolding printInto textInto
-printed-within s r room n is e = within (ltb room (length (printed s))) (printed s) room n refl (sym is ∙ e)
+pub text-read : (s : Text) (r : Response) (old new : Text) (t : Series) → readText s ≡ value t → Responds r (linesFor (seriesOrRefusal t)) (status (seriesOrRefusal t)) old new → Responds r (printed s) (status (textOrRefusal s)) old new
+unfolding printed textOrRefusal
+text-read s r old new t e p = rw e p

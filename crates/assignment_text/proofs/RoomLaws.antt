@@ -1,46 +1,68 @@
--- What is printed for any text fits 22,545 bytes: the names line and 1,024 lines of at most 22 bytes.
-use Prim.Native.Nat.{ℕ, _≤_}
-use mathlib.Core.Path.{_≡_, refl}
-use mathlib.Core.List.{List, [], _∷_}
+-- What is printed for any text: at least a line, and at most 22,545 bytes.
+use Prim.Native.Nat.{ℕ, _+_, _≤_, _<_}
+use mathlib.Core.Path.{_≡_, refl, ap}
+use mathlib.Core.List.{List, [], _∷_, _++_}
 use native.Mathlib.Omega.{arith}
-use lib.ListN.{length, length-append, length-map}
-use Rattle.series.specs.Refusals.{Verdict, accepted, refused}
+use borrow.Author.Tests.{le-ltb}
+use lib.ListN.{length, drop, length-append}
+use lib.Seq.{take-at}
+use Rattle.series.specs.Ascii.{ascii}
+use Rattle.series.specs.Results.{Result, refused, value, _>>=_}
+use Rattle.series.specs.Outputs.{onto, ontoRoom}
+use Rattle.series.specs.Series.{Series}
+use Rattle.series.specs.Refusals.{verdict}
 use Rattle.series.specs.Call.{assigned}
-use Rattle.series_text.specs.Ascii.{ascii}
-use Rattle.series_text.specs.Results.{Result, value}
-use Rattle.series_text.specs.Results as Results
-use Rattle.series_text.specs.Text.{Text, Position, Series, NEWLINE, MOST, readText, writeNumber, writePositions}
-use Rattle.series_text.specs.Calls.{positionsOf}
-use Rattle.series_text.specs.Tables.{tableText, noteText}
-use Rattle.series_text.proofs.DecimalLaws.{digits-few}
-use Rattle.series_text.proofs.PositionLaws.{length-number}
-use Rattle.series_text.proofs.RoundTrip.{lines-few}
-use Rattle.assignment_text.specs.Printed.{refusedLines, assignedLines, accountsOf, shortsOf, verdictLines, seriesVerdict, seriesLines, readingLines, printed}
-use Rattle.assignment_text.proofs.ReadingLaws.{few-positions}
+use Rattle.series.proofs.ResultLaws.{stepped, value-is}
+use Rattle.series_text.specs.Fields.{Text}
+use Rattle.series_text.specs.Rows.{writeRow, writeRows, rowsOf}
+use Rattle.series_text.specs.Text.{MOST_LINES, readText}
+use Rattle.series_text.specs.Calls.{lineCount}
+use Rattle.series_text.proofs.RowLaws.{row-few}
+use Rattle.series_text.proofs.LengthLaws.{rows-room}
+use Rattle.assignment_text.specs.Printed.{refusedLines, assignedLines, seriesOrRefusal, textOrRefusal, linesFor, printed, MOST_PRINTED}
+use Rattle.assignment_text.specs.Responses.{Printing, responseOf, printInto, Responds, Whole}
+use Rattle.assignment_text.specs.declared.Response.{Response}
+use Rattle.assignment_text.proofs.ReadingLaws.{ReadLists, few-positions}
 
-few-lines : (accounts amounts : List ℕ) → length (positionsOf accounts amounts) ≤ length accounts
-unfolding positionsOf
-few-lines [] vs = omega arith
-few-lines (a ∷ rest) [] = omega arith
-few-lines (a ∷ rest) (v ∷ vs) = omega (arith, few-lines rest vs)
+-- so many bytes are at least one and at most what can be printed
+pub record Printable (n : ℕ) : Type 0 where
+  pub some : 0 < n
+  pub most : n ≤ MOST_PRINTED
 
-refused-room : (n : ℕ) → length (refusedLines n) ≤ 22545
-unfolding refusedLines noteText ascii
-refused-room n = omega (arith, length-append (ascii "refused\n") (writeNumber n NEWLINE), length-number n NEWLINE, digits-few n)
+refused-printable : (n : ℕ) → Printable (length (refusedLines n))
+unfolding refusedLines ascii
+refused-printable n = record { some = omega arith; most = omega (arith, length-append (ascii "refused\n") (writeRow (n ∷ [])), row-few (n ∷ [])) }
 
-verdict-room : (v : Verdict) (t : Series) → length (t .positions) ≤ MOST → length (verdictLines v t) ≤ 22545
-unfolding verdictLines assignedLines tableText accountsOf ascii
-verdict-room (refused n) t few = refused-room n
-verdict-room accepted t few =
-    let vs : List ℕ = assigned (t .terms .method) (shortsOf t) (t .terms .exercised) (t .terms .draw) in
-    let ps : List Position = positionsOf (accountsOf t) vs in
-    omega (arith, length-append (ascii "account,assigned\n") (writePositions ps), lines-few ps, few-lines (accountsOf t) vs, length-map (t .positions) (λ p. p .account))
+assigned-printable : (t : Series) → length (t .accounts) ≤ MOST_LINES → Printable (length (assignedLines (t .accounts) (assigned t)))
+unfolding assignedLines ascii lineCount
+assigned-printable t few =
+    let cs : List (List ℕ) = t .accounts ∷ assigned t ∷ [] in
+    record { some = omega arith; most = omega (arith, length-append (ascii "account,assigned\n") (writeRows (rowsOf cs)), rows-room cs) }
 
-reading-room : (s : Text) (r : Result Series) → readText s ≡ r → length (readingLines r) ≤ 22545
-unfolding readingLines seriesLines
-reading-room s (Results.refused n) e = refused-room n
-reading-room s (value t) e = verdict-room (seriesVerdict t) t (few-positions s t e)
+lines-printable : (r : Result Series) → ((t : Series) → r ≡ value t → length (t .accounts) ≤ MOST_LINES) → Printable (length (linesFor r))
+unfolding linesFor
+lines-printable (refused n) few = refused-printable n
+lines-printable (value t) few = assigned-printable t (few t refl)
 
-pub printed-room : (s : Text) → length (printed s) ≤ 22545
+-- the series of a text has at most 1,024 positions
+few-in-text : (s : Text) (t : Series) → textOrRefusal s ≡ value t → length (t .accounts) ≤ MOST_LINES
+unfolding textOrRefusal seriesOrRefusal
+few-in-text s t e =
+    let read = stepped (readText s) _ t e in
+    let judged = stepped (verdict (read .from) (length (read .from .shorts))) _ t (read .on) in
+    let is : read .from ≡ t = value-is (judged .on) in
+    few-positions s t (rw is at (read .step)) .few
+
+pub printed-room : (s : Text) → Printable (length (printed s))
 unfolding printed
-printed-room s = reading-room s (readText s) refl
+printed-room s = lines-printable (textOrRefusal s) (few-in-text s)
+
+-- all that is printed for a text stands in an output with room for it
+pub printed-whole : (s : Text) (r : Response) (v : ℕ) (old new : Text) → MOST_PRINTED ≤ length old → Responds r (printed s) v old new → Whole (responseOf r .written) (printed s) new
+unfolding printInto ontoRoom onto
+printed-whole s r v old new room p =
+    let fits = le-ltb (length old) (length (printed s)) (omega (arith, printed-room s .most)) in
+    let hands : responseOf r ≡ record { written = length (printed s); refusal = v } = rw fits at (p .hands) in
+    let written : responseOf r .written ≡ length (printed s) = ap (λ (h : Printing). h .written) hands in
+    let output : new ≡ printed s ++ drop (length (printed s)) old = rw fits at (p .output) in
+    record { bytes = written; text = rw (written, output) (take-at (printed s) (drop (length (printed s)) old) (length (printed s)) refl) }

@@ -1,31 +1,34 @@
 -- What the call hands back, and what its output then holds.
 use Prim.Native.Nat.{ℕ}
-use lib.ListN.{length}
 use mathlib.Core.Path.{_≡_}
+use mathlib.Core.Bool.{cond}
+use lib.Dec.{ltb}
+use lib.ListN.{length, take}
 use Rattle.series.specs.Answers.{numberOf}
-use Rattle.series.specs.Refusals.{Verdict, accepted, refused}
-use Rattle.series_text.specs.Results.{Result, value}
-use Rattle.series_text.specs.Results as Results
-use Rattle.series_text.specs.Text.{Text}
-use Rattle.series_text.specs.Calls.{lengthOf, textAfter}
-use Rattle.assignment_text.specs.Printed.{textInto}
+use Rattle.series.specs.Outputs.{ontoRoom}
+use Rattle.series_text.specs.Fields.{Text}
 use Rattle.assignment_text.specs.declared.Response.{Response}
-use Rattle.assignment_text.specs.declared.Response.the-variants.{Assigned, Refused, TooShort}
 
--- the number of bytes printed, or refusal 4
-abbrev pub responseOf : Response → Result ℕ
-responseOf (Assigned n) = value n
-responseOf (Refused n r) = value n
-responseOf TooShort = Results.refused 4
+-- how many bytes are printed, and the number of the refusal, 0 where there is none
+pub record Printing : Type 0 where
+  pub written : ℕ
+  pub refusal : ℕ
 
--- an answer that prints says whether the text was allocated, or which refusal it met
-abbrev pub Tells : Response → Verdict → Type 0
-Tells (Assigned n) v = v ≡ accepted
-Tells (Refused n r) v = v ≡ refused (numberOf r)
-Tells TooShort v = Unit
+-- what each answer hands back
+abbrev pub responseOf : Response → Printing
+responseOf (Response.Assigned n) = record { written = n; refusal = 0 }
+responseOf (Response.Refused n r) = record { written = n; refusal = numberOf r }
 
--- the answer r to a verdict v that has the text s printed to an output, which held old and then holds new
-pub record Responds (r : Response) (v : Verdict) (s old new : Text) : Type 0 where
-  pub hands : responseOf r ≡ lengthOf (textInto s (length old))
-  pub output : new ≡ textAfter (textInto s (length old)) old
-  pub tells : Tells r v
+-- printing the text s, which tells this refusal or 0, to an output of length room: nothing and 4 where it is shorter
+unfoldable pub printInto : Text → ℕ → ℕ → Printing
+printInto s refusal room = cond (ltb room (length s)) (record { written = 0; refusal = 4 }) (record { written = length s; refusal = refusal })
+
+-- the answer r has the text s printed, which tells this refusal or 0, to an output that held old and then holds new
+pub record Responds (r : Response) (s : Text) (refusal : ℕ) (old new : Text) : Type 0 where
+  pub hands : responseOf r ≡ printInto s refusal (length old)
+  pub output : new ≡ ontoRoom s old
+
+-- an output that holds new has the whole text s in its first n bytes
+pub record Whole (n : ℕ) (s new : Text) : Type 0 where
+  pub bytes : n ≡ length s
+  pub text : take n new ≡ s

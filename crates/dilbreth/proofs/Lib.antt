@@ -1,1 +1,2 @@
+-- Laws that the proofs of src/ cite.
 mod ExportLaws

@@ -1,3 +1,2 @@
 -- What the exported calls answer, and what stands behind each argument then.
-pub mod Allocating
-pub mod Texts
+pub mod Exports

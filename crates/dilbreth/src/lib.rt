@@ -1,16 +1,31 @@
 // The calls of the library for C and Rust, over numbers and slices. Each answers 0, or the number of a refusal of document 01, and then nothing behind its arguments has changed.
+mod explain;
+
 use assignment_text::Response;
 use series::Answer;
 use series::Contracts;
-use series_text::Named;
+use series::Method;
+use series::Terms;
 use series_text::Reading;
-use series_text::Writing;
+use series_text::letters::Named;
+use text_writing::Writing;
 ghost use mathlib.Core.Path.{_≡_};
 ghost use lib.ListN.{length};
-ghost use Rattle.series_text.specs.Calls.{readInto, handed, accountsAfter, shortsAfter, lengthOf, textAfter};
-ghost use Rattle.assignment_text.specs.Printed.{printInto};
-ghost use Rattle.dilbreth.specs.Allocating.{called, calledOutput, statusOf, totalAfter, furtherAfter};
-ghost use Rattle.dilbreth.specs.Texts.{status, numberAfter, letterAfter, exercisedAfter, drawAfter, positionsAfter, written as writtenOf};
+ghost use Rattle.series.specs.Results.{after};
+ghost use Rattle.series.specs.Outputs.{onto};
+ghost use Rattle.series_text.specs.Calls.{readInto};
+ghost use Rattle.dilbreth.specs.Exports.{seriesBy, Allocates, Reads, writtenBy, printedInto, Writes};
+
+// The values of a series, from numbers.
+fn terms_of(method: Method, exercised: u32, draw: u32) -> Terms
+    ensures { λ r. ⌜ r ≡ record { method = method; exercised = record { 0 = exercised }; draw = draw } ⌝ }
+{
+    Terms {
+        method,
+        exercised: Contracts(exercised),
+        draw,
+    }
+}
 
 // Assigns exercised contracts by the method W, P or L; any other letter is 14.
 #[no_mangle]
@@ -24,15 +39,13 @@ pub extern "C" fn dilbreth_allocate(
     total: &mut u32,
     further: &mut u32,
 ) -> u32
-    ensures { λ r. ⌜ r ≡ statusOf (called method (now (accounts .entry)) (now (shorts .entry)) exercised draw (length (now (amounts .entry)))) ⌝ }
-    ensures { λ _. ⌜ now (amounts .exit) ≡ calledOutput method (now (accounts .entry)) (now (shorts .entry)) exercised draw (now (amounts .entry)) ⌝ }
-    ensures { λ _. ⌜ now (total .exit) ≡ totalAfter (called method (now (accounts .entry)) (now (shorts .entry)) exercised draw (length (now (amounts .entry)))) (now (total .entry)) ⌝ }
-    ensures { λ _. ⌜ now (further .exit) ≡ furtherAfter (called method (now (accounts .entry)) (now (shorts .entry)) exercised draw (length (now (amounts .entry)))) (now (further .entry)) ⌝ }
+    ensures { λ r. ⌜ Allocates (seriesBy method exercised draw (now (accounts .entry)) (now (shorts .entry))) r (now (amounts .entry)) (now (amounts .exit)) (record { old = now (total .entry); new = now (total .exit) }) (record { old = now (further .entry); new = now (further .exit) }) ⌝ }
 {
-    let Named::Method(named) = series_text::method_by(method) else {
+    let Named::Method(named) = series_text::letters::method_by(method) else {
         return 14;
     };
-    match allocation::allocate(named, accounts, shorts, Contracts(exercised), draw, amounts) {
+    let terms = terms_of(named, exercised, draw);
+    match allocation::allocate(terms, accounts, shorts, amounts) {
         Answer::Wheel { total: sum, blocks } => {
             *total = sum.0;
             *further = blocks;
@@ -66,22 +79,19 @@ pub extern "C" fn dilbreth_read(
     draw: &mut u32,
     positions: &mut usize,
 ) -> u32
-    ensures { λ r. ⌜ r ≡ status (readInto (now (text .entry)) (length (now (accounts .entry))) (length (now (shorts .entry)))) ⌝ }
-    ensures { λ _. ⌜ now (accounts .exit) ≡ accountsAfter (readInto (now (text .entry)) (length (now (accounts .entry))) (length (now (shorts .entry)))) (now (accounts .entry)) ⌝ }
-    ensures { λ _. ⌜ now (shorts .exit) ≡ shortsAfter (readInto (now (text .entry)) (length (now (accounts .entry))) (length (now (shorts .entry)))) (now (shorts .entry)) ⌝ }
-    ensures { λ _. ⌜ now (method .exit) ≡ letterAfter (handed (readInto (now (text .entry)) (length (now (accounts .entry))) (length (now (shorts .entry))))) (now (method .entry)) ⌝ }
-    ensures { λ _. ⌜ (now (exercised .exit) ≡ exercisedAfter (handed (readInto (now (text .entry)) (length (now (accounts .entry))) (length (now (shorts .entry))))) (now (exercised .entry))) × (now (draw .exit) ≡ drawAfter (handed (readInto (now (text .entry)) (length (now (accounts .entry))) (length (now (shorts .entry))))) (now (draw .entry))) × (now (positions .exit) ≡ positionsAfter (handed (readInto (now (text .entry)) (length (now (accounts .entry))) (length (now (shorts .entry))))) (now (positions .entry))) ⌝ }
+    ensures { λ _. ⌜ now (accounts .exit) ≡ after (readInto (now (text .entry)) (length (now (accounts .entry))) (length (now (shorts .entry)))) (λ s. onto (s .accounts) (now (accounts .entry))) (now (accounts .entry)) ⌝ }
+    ensures { λ _. ⌜ now (shorts .exit) ≡ after (readInto (now (text .entry)) (length (now (accounts .entry))) (length (now (shorts .entry)))) (λ s. onto (s .shorts) (now (shorts .entry))) (now (shorts .entry)) ⌝ }
+    ensures { λ r. ⌜ Reads (readInto (now (text .entry)) (length (now (accounts .entry))) (length (now (shorts .entry)))) r (record { old = now (method .entry); new = now (method .exit) }) (record { old = now (exercised .entry); new = now (exercised .exit) }) (record { old = now (draw .entry); new = now (draw .exit) }) (record { old = now (positions .entry); new = now (positions .exit) }) ⌝ }
 {
     match series_text::read(text, accounts, shorts) {
         Reading::Series {
-            method: named,
-            exercised: contracts,
-            draw: drawn,
+            terms,
             positions: n,
         } => {
-            *method = series_text::letter_of(named);
-            *exercised = contracts.0;
-            *draw = drawn;
+            let named = terms.method;
+            *method = series_text::letters::letter_of(named);
+            *exercised = terms.exercised.0;
+            *draw = terms.draw;
             *positions = n;
             0
         }
@@ -100,14 +110,13 @@ pub extern "C" fn dilbreth_write(
     text: &mut [u8],
     written: &mut usize,
 ) -> u32
-    ensures { λ r. ⌜ r ≡ status (writtenOf method exercised draw (now (accounts .entry)) (now (shorts .entry)) (length (now (text .entry)))) ⌝ }
-    ensures { λ _. ⌜ now (text .exit) ≡ textAfter (writtenOf method exercised draw (now (accounts .entry)) (now (shorts .entry)) (length (now (text .entry)))) (now (text .entry)) ⌝ }
-    ensures { λ _. ⌜ now (written .exit) ≡ numberAfter (lengthOf (writtenOf method exercised draw (now (accounts .entry)) (now (shorts .entry)) (length (now (text .entry))))) (now (written .entry)) ⌝ }
+    ensures { λ r. ⌜ Writes (writtenBy (seriesBy method exercised draw (now (accounts .entry)) (now (shorts .entry))) (length (now (text .entry)))) r (now (text .entry)) (now (text .exit)) (record { old = now (written .entry); new = now (written .exit) }) ⌝ }
 {
-    let Named::Method(named) = series_text::method_by(method) else {
+    let Named::Method(named) = series_text::letters::method_by(method) else {
         return 14;
     };
-    match series_text::write(named, Contracts(exercised), draw, accounts, shorts, text) {
+    let terms = terms_of(named, exercised, draw);
+    match text_writing::write(terms, accounts, shorts, text) {
         Writing::Written(n) => {
             *written = n;
             0
@@ -119,9 +128,7 @@ pub extern "C" fn dilbreth_write(
 // Writes what the program prints for a text: the amounts, or the refusal of the text, which is no refusal of this call.
 #[no_mangle]
 pub extern "C" fn dilbreth_respond(text: &[u8], output: &mut [u8], written: &mut usize) -> u32
-    ensures { λ r. ⌜ r ≡ status (printInto (now (text .entry)) (length (now (output .entry)))) ⌝ }
-    ensures { λ _. ⌜ now (output .exit) ≡ textAfter (printInto (now (text .entry)) (length (now (output .entry)))) (now (output .entry)) ⌝ }
-    ensures { λ _. ⌜ now (written .exit) ≡ numberAfter (lengthOf (printInto (now (text .entry)) (length (now (output .entry))))) (now (written .entry)) ⌝ }
+    ensures { λ r. ⌜ Writes (printedInto (now (text .entry)) (length (now (output .entry)))) r (now (output .entry)) (now (output .exit)) (record { old = now (written .entry); new = now (written .exit) }) ⌝ }
 {
     match assignment_text::respond(text, output) {
         Response::Assigned(n) => {
@@ -129,9 +136,11 @@ pub extern "C" fn dilbreth_respond(text: &[u8], output: &mut [u8], written: &mut
             0
         }
         Response::Refused(n, _) => {
+            if n == 0 {
+                return 4;
+            }
             *written = n;
             0
         }
-        Response::TooShort => 4,
     }
 }

@@ -1,4 +1,4 @@
--- What a call that meets no refusal has of its draw.
+-- What a call that meets no refusal has of its output and its draw.
 use Prim.Native.Nat.{ℕ, suc, _+_, _*_, _/_, _≤_, _<_}
 use mathlib.Core.Path.{_≡_, refl}
 use mathlib.Core.Bool.{Bool, true, false, _||_}
@@ -8,12 +8,15 @@ use native.Mathlib.Nat.{le-refl, mul-le-mul}
 use lib.Dec.{eqb, ltb}
 use lib.ListN.{length}
 use borrow.Author.Tests.{ltb-false, eqb-false}
-use Rattle.series.specs.Places.{total, OnWheel}
+use Rattle.series.specs.Results.{value}
+use Rattle.series.specs.Places.{OnWheel}
+use Rattle.series.specs.Series.{Series, exercised, held}
 use Rattle.series.specs.Lottery.{startingPlace}
-use Rattle.series.specs.Refusals.{accepted, first, lengthRows, positionRows, exercisedRows, outside, drawRows, rows, verdict}
+use Rattle.series.specs.Refusals.{NoneApplies, lengthRows, roomRows, positionRows, exercisedRows, outside, drawRows, listRows, rows, verdict}
 use Rattle.series.specs.declared.Method.{Method}
-use Rattle.series.specs.declared.Method.the-variants.{Wheel, ProRata, Lottery}
-use Rattle.series.proofs.AcceptedLaws.{first-cons, first-split, positive}
+use Rattle.series.specs.declared.Terms.{Terms}
+use Rattle.series.proofs.RowLaws.{value-passed, value-same, passed-append}
+use Rattle.series.proofs.AcceptedLaws.{positive}
 
 or-false : (a b : Bool) → (a || b) ≡ false → (a ≡ false) × (b ≡ false)
 or-false false b h = (refl, h)
@@ -25,28 +28,37 @@ not-outside n draw h =
     let parts = or-false (eqb draw 0) (ltb n draw) h in
     record { low = positive (eqb-false draw 0 (parts .0)); high = ltb-false n draw (parts .1) }
 
--- the output is at least as long as the list
-pub verdict-room : (m : Method) (accounts shorts : List ℕ) (S draw room : ℕ) → verdict m accounts shorts S draw room ≡ accepted → length shorts ≤ room
-unfolding verdict rows lengthRows
-verdict-room m accounts shorts S draw room h =
-    ltb-false _ _ (first-cons _ _ (first-cons _ _ (first-cons _ _ (first-cons _ _ h .1) .1) .1) .0)
+module _ (s : Series) (room T : ℕ) (v : verdict s room ≡ value T) where
+  all-passed : NoneApplies (rows s room)
+  unfolding verdict
+  all-passed = value-passed (rows s room) (held s) T v
 
-pub draw-passes : (m : Method) (accounts shorts : List ℕ) (S draw room : ℕ) → verdict m accounts shorts S draw room ≡ accepted → first (drawRows m (total shorts) draw) ≡ accepted
-unfolding verdict rows
-draw-passes m accounts shorts S draw room h =
-    first-split (exercisedRows (total shorts) S) (drawRows m (total shorts) draw)
-    (first-split (positionRows 0 0 accounts shorts) (exercisedRows (total shorts) S ++ drawRows m (total shorts) draw)
-    (first-split (lengthRows accounts shorts room) (positionRows 0 0 accounts shorts ++ (exercisedRows (total shorts) S ++ drawRows m (total shorts) draw)) h .1) .1) .1
+  -- the total that is handed back is T
+  pub verdict-total : held s ≡ T
+  unfolding verdict
+  verdict-total = value-same (rows s room) (held s) T v
+
+  -- the output is at least as long as the list
+  pub verdict-room : length (s .shorts) ≤ room
+  unfolding rows listRows NoneApplies lengthRows roomRows
+  verdict-room = ltb-false _ _ (all-passed .1 .1 .1 .0)
+
+  -- the draw is not turned away
+  pub draw-passes : NoneApplies (drawRows (s .terms) (held s))
+  unfolding rows listRows NoneApplies lengthRows roomRows
+  draw-passes =
+      let terms = passed-append (positionRows 0 0 (s .accounts) (s .shorts)) (exercisedRows (held s) (exercised s) ++ drawRows (s .terms) (held s)) (all-passed .1 .1 .1 .1) .1 in
+      passed-append (exercisedRows (held s) (exercised s)) (drawRows (s .terms) (held s)) terms .1
 
 -- under W the draw is a place
-pub wheel-draw : (T draw : ℕ) → first (drawRows Wheel T draw) ≡ accepted → OnWheel T draw
-unfolding drawRows
-wheel-draw T draw h = not-outside T draw (first-cons _ _ h .0)
+pub wheel-draw : (t : Terms) (T : ℕ) → t .method ≡ Method.Wheel → NoneApplies (drawRows t T) → OnWheel T (t .draw)
+unfolding drawRows NoneApplies
+wheel-draw t T e h = not-outside T (t .draw) ((rw e at h) .0)
 
 -- under L it is 1 to 10,000
-pub lottery-draw : (T draw : ℕ) → first (drawRows Lottery T draw) ≡ accepted → OnWheel 10000 draw
-unfolding drawRows
-lottery-draw T draw h = not-outside 10000 draw (first-cons _ _ h .0)
+pub lottery-draw : (t : Terms) (T : ℕ) → t .method ≡ Method.Lottery → NoneApplies (drawRows t T) → OnWheel 10000 (t .draw)
+unfolding drawRows NoneApplies
+lottery-draw t T e h = not-outside 10000 (t .draw) ((rw e at h) .0)
 
 -- a draw of 1 to 10,000 leads to a place
 pub starting-on : (T draw : ℕ) → 0 < T → OnWheel 10000 draw → OnWheel T (startingPlace T draw)

@@ -2,7 +2,12 @@
 pub mod Demand3
 pub mod Starred
 pub mod Readings
+pub mod OnePosition
+pub mod DrawUnused
+pub mod ResultLaws
+pub mod RowLaws
 pub mod SumLaws
+pub mod ListLaws
 pub mod PlaceLaws
 pub mod WheelLaws
 pub mod LotteryLaws

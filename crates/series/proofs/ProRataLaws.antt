@@ -8,6 +8,7 @@ use native.Mathlib.Decide.{decLt, decLe, ℕ-discrete}
 use lib.Dec.{eqb, ltb, leb}
 use lib.ListN.{length, getD, List·getD-eq-default}
 use borrow.Author.Tests.{lt-ltb, le-ltb, le-leb, lt-leb, eq-eqb, ne-eqb}
+use Rattle.series.specs.Series.{MOST_CONTRACTS, MOST_POSITIONS}
 use Rattle.series.specs.Sums.{sumBelow, bit, countBelow}
 use Rattle.series.specs.Places.{total}
 use Rattle.series.specs.ProRata.{percentage, assignmentAmount, wholePart, decimalPart, roundOne, decimals, remainder, larger, equal, turn, rank, roundTwo, proRata}
@@ -195,16 +196,6 @@ module _ (d : ℕ → ℕ) (n draw left c : ℕ) (fewer : larger d c n < left) (
         count-first m g (omega arith),
       )
 
-  -- the draw changes nothing where all the tied ones are served
-  pub draw-unused : (draw′ : ℕ) → larger d c n + equal d c n ≤ left → (i : ℕ) → i < n → roundTwo d n draw left i ≡ roundTwo d n draw′ left i
-  draw-unused draw′ all i h =
-      elim (decLt (d i) c) [
-        | yes l ↦ below-unserved i l ∙ sym (unserved d n draw′ left i (omega (arith, atLeast-parts d c n, larger-next d (d i) n, atLeast-falls d (suc (d i)) c n l)))
-        | no g ↦
-            let l : larger d (d i) n + equal d (d i) n ≤ left = omega (arith, atLeast-parts d (d i) n, atLeast-parts d c n, atLeast-falls d c (d i) n (omega arith)) in
-            served d n draw left i h l ∙ sym (served d n draw′ left i h l)
-      ]
-
 -- a number at which a falling count passes `left`
 cut-below : (d : ℕ → ℕ) (n left b : ℕ) → left ≤ atLeast d 0 n → atLeast d b n < left → (c : ℕ) × (larger d c n < left) × (left ≤ larger d c n + equal d c n)
 cut-below d n left zero h l = absurd (omega arith)
@@ -230,7 +221,7 @@ residue : ℕ → ℕ → ℕ → ℕ
 residue T S h = h * S - T * wholePart (percentage S T) h
 
 -- the two truncations
-module _ (T S h : ℕ) (pos : 0 < T) (few : T ≤ 10000000) (part : h ≤ T) where
+module _ (T S h : ℕ) (pos : 0 < T) (few : T ≤ MOST_CONTRACTS) (part : h ≤ T) where
   abbrev w : ℕ
   w = wholePart (percentage S T) h
 
@@ -313,7 +304,7 @@ module _ (T S h : ℕ) (pos : 0 < T) (few : T ≤ 10000000) (part : h ≤ T) whe
         | no g ↦ rw (ne-eqb x 99999 g) (omega arith)
       ]
 
-module _ (hs : List ℕ) (S : ℕ) (pos : 0 < total hs) (few : total hs ≤ 10000000) (short : length hs ≤ 4096) (within : S ≤ total hs) where
+module _ (hs : List ℕ) (S : ℕ) (pos : 0 < total hs) (few : total hs ≤ MOST_CONTRACTS) (short : length hs ≤ MOST_POSITIONS) (within : S ≤ total hs) where
   abbrev T : ℕ
   T = total hs
 
@@ -427,18 +418,18 @@ module _ (hs : List ℕ) (S : ℕ) (pos : 0 < total hs) (few : total hs ≤ 1000
     unfolding proRata
     pro-rata-at i h = getD-listed amount n i h
 
-    abbrev own : ℕ → ℕ
-    own i = residue T S (shorts i)
+    abbrev residueAt : ℕ → ℕ
+    residueAt i = residue T S (shorts i)
 
     -- a position whose share round one has met is not served in round two
-    met-unserved : (i : ℕ) → i < n → own i ≡ 0 → roundTwo d n draw left i ≡ 0
+    met-unserved : (i : ℕ) → i < n → residueAt i ≡ 0 → roundTwo d n draw left i ≡ 0
     unfolding decimals
     met-unserved i h e =
         let z : d i ≡ 0 = residue-none T S (shorts i) pos few (total-term hs i h) e in
         unserved d n draw left i (omega (arith, remainder-above, ap (λ y. larger d y n) z))
 
     -- and one that wants a whole contract is
-    whole-served : (i : ℕ) → i < n → own i ≡ T → roundTwo d n draw left i ≡ 1
+    whole-served : (i : ℕ) → i < n → residueAt i ≡ T → roundTwo d n draw left i ≡ 1
     unfolding decimals
     whole-served i h e =
         let z : d i ≡ 99999 = residue-all T S (shorts i) pos few (total-term hs i h) e in
@@ -455,19 +446,19 @@ module _ (hs : List ℕ) (S : ℕ) (pos : 0 < total hs) (few : total hs ≤ 1000
     pub pro-rata-share : (i : ℕ) → i < n → (shorts i * S < T * getD (proRata hs S draw) i 0 + T) × (T * getD (proRata hs S draw) i 0 < shorts i * S + T)
     unfolding roundOne
     pro-rata-share i h =
-        let sum : T * roundOne hs S i + own i ≡ shorts i * S = residue-sum T S (shorts i) pos few (total-term hs i h) in
-        let most : own i ≤ T = residue-le T S (shorts i) pos few (total-term hs i h) in
+        let sum : T * roundOne hs S i + residueAt i ≡ shorts i * S = residue-sum T S (shorts i) pos few (total-term hs i h) in
+        let most : residueAt i ≤ T = residue-le T S (shorts i) pos few (total-term hs i h) in
         let at : T * getD (proRata hs S draw) i 0 ≡ T * roundOne hs S i + T * roundTwo d n draw left i = ap (T *_) (pro-rata-at i h) ∙ omega arith in
         elim (ℕ-discrete (roundTwo d n draw left i) 0) [
           | yes z ↦
-              let l : own i < T =
-              elim (decLt (own i) T) [ yes l ↦ l | no g ↦ let e : own i ≡ T = omega arith in absurd (omega (arith, whole-served i h e)) ]
+              let l : residueAt i < T =
+              elim (decLt (residueAt i) T) [ yes l ↦ l | no g ↦ let e : residueAt i ≡ T = omega arith in absurd (omega (arith, whole-served i h e)) ]
               in
               omega (arith, ap (T *_) z)
           | no g ↦
               let o : roundTwo d n draw left i ≡ 1 = omega (arith, round-two-le d n draw left i) in
-              let l : 0 < own i =
-              elim (decLt 0 (own i)) [ yes l ↦ l | no g′ ↦ let e : own i ≡ 0 = omega arith in absurd (omega (arith, met-unserved i h e)) ]
+              let l : 0 < residueAt i =
+              elim (decLt 0 (residueAt i)) [ yes l ↦ l | no g′ ↦ let e : residueAt i ≡ 0 = omega arith in absurd (omega (arith, met-unserved i h e)) ]
               in
               omega (arith, ap (T *_) o)
         ]

@@ -6,7 +6,9 @@ use lib.ListN.{replicate}
 use Rattle.series.specs.Places.{total}
 use Rattle.series.specs.Wheel.{interval}
 use Rattle.series.specs.ProRata.{percentage}
-use Rattle.series.specs.Refusals.{Verdict, refused, first, lengthRows, positionRows, exercisedRows, outside, drawRows, rows, verdict}
+use Rattle.series.specs.Results.{Result, refused}
+use Rattle.series.specs.Series.{Series}
+use Rattle.series.specs.Refusals.{first, lengthRows, roomRows, positionRows, exercisedRows, outside, drawRows, listRows, rows, verdict}
 use Rattle.series.specs.declared.Method.{Method}
 use Rattle.series.specs.declared.Method.the-variants.{Wheel, Lottery}
 
@@ -20,21 +22,21 @@ pub digits-dropped : percentage 2 3 ≡ 66666666666666666
 unfolding percentage
 digits-dropped = refl
 
--- a call: room is the length of its output
+-- a call of a series; room is the length of its output
 pub record Call : Type 0 where
-  pub method : Method
-  pub accounts : List ℕ
-  pub shorts : List ℕ
-  pub exercised : ℕ
-  pub draw : ℕ
+  pub series : Series
   pub room : ℕ
 
 abbrev call : Method → List ℕ → List ℕ → ℕ → ℕ → ℕ → Call
-call m accounts shorts S draw room = record { method = m; accounts = accounts; shorts = shorts; exercised = S; draw = draw; room = room }
+call m accounts shorts S draw room =
+    record {
+      series = record { terms = record { method = m; exercised = record { 0 = S }; draw = draw }; accounts = accounts; shorts = shorts };
+      room = room;
+    }
 
-pub verdictOn : Call → Verdict
-unfolding total first lengthRows positionRows exercisedRows outside drawRows rows verdict
-verdictOn c = verdict (c .method) (c .accounts) (c .shorts) (c .exercised) (c .draw) (c .room)
+pub verdictOn : Call → Result ℕ
+unfolding total first lengthRows roomRows positionRows exercisedRows outside drawRows listRows rows verdict
+verdictOn c = verdict (c .series) (c .room)
 
 -- calls that meet 1 and 2, 2 and 4, 3 and 8, 4 and 5, 5 and 6, 6 and then 7, 7 and then 5, 7 and 8, 8 and 10, 9 and 10; and each of them meets 10 too
 pub twice : List Call

@@ -1,50 +1,47 @@
 -- Document 01's series with known amounts, proved of the definitions by computation.
 use Prim.Native.Nat.{ℕ, suc, _+_, _-_}
 use mathlib.Core.Path.{_≡_, refl}
-use mathlib.Core.Bool.{Bool, true, false, not, _&&_, _||_, cond}
 use mathlib.Core.List.{List, [], _∷_, _++_, map}
-use lib.Dec.{eqb, ltb, leb}
-use lib.ListN.{length, getD, replicate}
+use lib.ListN.{length, replicate}
+use Rattle.series.specs.Results.{Result, refused, value}
+use Rattle.series.specs.Outputs.{onto}
 use Rattle.series.specs.Sums.{sumBelow, bit, countBelow, listed}
 use Rattle.series.specs.Places.{total, next, steps, run, within, marked, before, last, amounts}
+use Rattle.series.specs.Series.{Series, held}
 use Rattle.series.specs.Wheel.{blocks, interval, marks, wheelMarks, wheel, blocksUsed}
 use Rattle.series.specs.ProRata.{percentage, assignmentAmount, wholePart, decimalPart, roundOne, decimals, remainder, larger, equal, turn, rank, roundTwo, proRata}
 use Rattle.series.specs.Lottery.{startingPlace, lottery}
-use Rattle.series.specs.Refusals.{first, lengthRows, positionRows, exercisedRows, outside, drawRows, rows, verdict}
-use Rattle.series.specs.Answers.{Outcome, allocation, refusal}
-use Rattle.series.specs.Call.{assigned, further, answerTo, outputTo, answer, output}
+use Rattle.series.specs.Refusals.{first, lengthRows, roomRows, positionRows, exercisedRows, outside, drawRows, listRows, rows, verdict, leftAside, aside, Accepted}
+use Rattle.series.specs.Answers.{Allocation}
+use Rattle.series.specs.Call.{assigned, further, answer, output}
 use Rattle.series.specs.declared.Method.{Method}
 use Rattle.series.specs.declared.Method.the-variants.{Wheel, ProRata, Lottery}
+use Rattle.series.proofs.RowLaws.{value-passed}
 
--- a series with accounts 1, 2, .., S and draw
-pub record Series : Type 0 where
-  pub method : Method
-  pub shorts : List ℕ
-  pub exercised : ℕ
-  pub draw : ℕ
-
--- what the call answers, and its output, which held one element more than the list, all 7
-pub record Result : Type 0 where
-  pub answered : Outcome
-  pub written : List ℕ
-
-abbrev series : Method → List ℕ → ℕ → ℕ → Series
-series m hs S draw = record { method = m; shorts = hs; exercised = S; draw = draw }
-
--- the line `unfolding` names every definition that the call's answer and output compute with
-pub resultOf : Series → Result
-unfolding sumBelow bit countBelow listed total next steps run within marked before last amounts blocks interval marks wheelMarks wheel blocksUsed percentage assignmentAmount wholePart decimalPart roundOne decimals remainder larger equal turn rank roundTwo proRata startingPlace lottery first lengthRows positionRows exercisedRows outside drawRows rows verdict assigned further answerTo outputTo answer output
-resultOf s =
-    let accounts : List ℕ = listed suc (length (s .shorts)) in
-    let old : List ℕ = replicate (suc (length (s .shorts))) 7 in
+-- a series with accounts 1, 2, ..
+pub series : Method → List ℕ → ℕ → ℕ → Series
+series m hs S draw =
     record {
-      answered = answer (s .method) accounts (s .shorts) (s .exercised) (s .draw) (length old);
-      written = output (s .method) accounts (s .shorts) (s .exercised) (s .draw) old;
+      terms = record { method = m; exercised = record { 0 = S }; draw = draw };
+      accounts = listed suc (length hs);
+      shorts = hs;
     }
 
--- an allocation with T, the further number and the amounts, the last element kept
-abbrev allocated : ℕ → ℕ → List ℕ → Result
-allocated T f vs = record { answered = allocation T f; written = vs ++ (7 ∷ []) }
+-- what the call answers, and its output, which held one element more than the list, all 7
+pub record Called : Type 0 where
+  pub answered : Result Allocation
+  pub written : List ℕ
+
+-- the line `unfolding` names every definition that the call's answer and output compute with
+pub calledOn : Series → Called
+unfolding series onto sumBelow bit countBelow listed total next steps run within marked before last amounts blocks interval marks wheelMarks wheel blocksUsed percentage assignmentAmount wholePart decimalPart roundOne decimals remainder larger equal turn rank roundTwo proRata startingPlace lottery first lengthRows roomRows positionRows exercisedRows outside drawRows listRows rows verdict assigned further answer output
+calledOn s =
+    let old : List ℕ = replicate (suc (length (s .shorts))) 7 in
+    record { answered = answer s (length old); written = output s old }
+
+-- an allocation by the method with T, the further number and the amounts, the last element kept
+abbrev allocated : Method → ℕ → ℕ → List ℕ → Called
+allocated m T f vs = record { answered = value (record { method = m; total = T; further = f }); written = vs ++ (7 ∷ []) }
 
 abbrev M-shorts : List ℕ
 M-shorts = 5 ∷ 8 ∷ 2 ∷ 10 ∷ 11 ∷ []
@@ -66,25 +63,25 @@ starred =
     series Lottery M-shorts 2 10000 ∷
     []
 
-pub known : List Result
+pub known : List Called
 known =
-    allocated 355 7 (35 ∷ 97 ∷ 43 ∷ []) ∷
-    allocated 355 7 (34 ∷ 98 ∷ 43 ∷ []) ∷
-    allocated 30 2 (10 ∷ 16 ∷ []) ∷
-    allocated 100 2 (25 ∷ 5 ∷ []) ∷
-    allocated 154 6 (75 ∷ 0 ∷ 75 ∷ []) ∷
-    allocated 10 1 (2 ∷ 1 ∷ 1 ∷ []) ∷
-    allocated 3 1 (1 ∷ []) ∷
-    allocated 3 1 (0 ∷ 0 ∷ 1 ∷ []) ∷
-    allocated 3 2 (1 ∷ 0 ∷ 1 ∷ []) ∷
-    allocated 6 2 (1 ∷ 0 ∷ 1 ∷ []) ∷
-    allocated 36 18 (0 ∷ 0 ∷ 0 ∷ 8 ∷ 5 ∷ []) ∷
-    allocated 36 36 (1 ∷ 0 ∷ 0 ∷ 0 ∷ 1 ∷ []) ∷
+    allocated Wheel 355 7 (35 ∷ 97 ∷ 43 ∷ []) ∷
+    allocated Wheel 355 7 (34 ∷ 98 ∷ 43 ∷ []) ∷
+    allocated Wheel 30 2 (10 ∷ 16 ∷ []) ∷
+    allocated Wheel 100 2 (25 ∷ 5 ∷ []) ∷
+    allocated Wheel 154 6 (75 ∷ 0 ∷ 75 ∷ []) ∷
+    allocated ProRata 10 1 (2 ∷ 1 ∷ 1 ∷ []) ∷
+    allocated ProRata 3 1 (1 ∷ []) ∷
+    allocated ProRata 3 1 (0 ∷ 0 ∷ 1 ∷ []) ∷
+    allocated ProRata 3 2 (1 ∷ 0 ∷ 1 ∷ []) ∷
+    allocated ProRata 6 2 (1 ∷ 0 ∷ 1 ∷ []) ∷
+    allocated Lottery 36 18 (0 ∷ 0 ∷ 0 ∷ 8 ∷ 5 ∷ []) ∷
+    allocated Lottery 36 36 (1 ∷ 0 ∷ 0 ∷ 0 ∷ 1 ∷ []) ∷
     []
 
 -- the twelve starred series have the known numbers and amounts
-pub starred-known : map resultOf starred ≡ known
-unfolding resultOf starred known
+pub starred-known : map calledOn starred ≡ known
+unfolding calledOn starred known
 starred-known = refl
 
 -- T = 3 under L with draws 3333 and 3334; T = 36 with S = 36 and 37; under W the draws 36, 0 and 37
@@ -103,24 +100,38 @@ boundaries =
     []
 
 -- a refusal with its number, the whole output kept
-abbrev turnedAway : ℕ → Result
-turnedAway n = record { answered = refusal n; written = replicate 6 7 }
+abbrev turnedAway : ℕ → Called
+turnedAway n = record { answered = refused n; written = replicate 6 7 }
 
 -- the starting places 1 and 2; allocated and 9; allocated, and 10 twice
-pub boundaries-known : map resultOf boundaries ≡
-    allocated 3 1 (1 ∷ 0 ∷ 0 ∷ []) ∷
-    allocated 3 2 (0 ∷ 1 ∷ 0 ∷ []) ∷
-    allocated 36 1 M-shorts ∷
+pub boundaries-known : map calledOn boundaries ≡
+    allocated Lottery 3 1 (1 ∷ 0 ∷ 0 ∷ []) ∷
+    allocated Lottery 3 2 (0 ∷ 1 ∷ 0 ∷ []) ∷
+    allocated Lottery 36 1 M-shorts ∷
     turnedAway 9 ∷
-    allocated 36 0 M-shorts ∷
+    allocated ProRata 36 0 M-shorts ∷
     turnedAway 9 ∷
-    allocated 36 0 M-shorts ∷
+    allocated Wheel 36 0 M-shorts ∷
     turnedAway 10 ∷
     turnedAway 10 ∷
     turnedAway 9 ∷
     []
-unfolding resultOf boundaries
+unfolding calledOn boundaries
 boundaries-known = refl
+
+-- M under each method, with a draw of 0, which W and L refuse
+pub undrawn : List Series
+undrawn = series Wheel M-shorts 13 0 ∷ series ProRata M-shorts 13 0 ∷ series Lottery M-shorts 13 0 ∷ []
+
+-- what the rows that are left come to where the draw is 0 and there is no room: T, for each of them
+pub undrawn-left : map (λ s. first (aside (rows s 0)) (held s)) undrawn ≡ value 36 ∷ value 36 ∷ value 36 ∷ []
+unfolding undrawn series listed total first aside leftAside rows listRows lengthRows roomRows positionRows exercisedRows outside drawRows
+undrawn-left = refl
+
+-- so M is accepted with draw 0 and room 0
+pub accepted-undrawn : Accepted (series Lottery M-shorts 13 0) 0
+unfolding Accepted series listed total first aside leftAside rows listRows lengthRows roomRows positionRows exercisedRows outside drawRows
+accepted-undrawn = value-passed (aside (rows (series Lottery M-shorts 13 0) 0)) (held (series Lottery M-shorts 13 0)) 36 refl
 
 -- the places a, a + 1, .., e
 pub span : ℕ → ℕ → List ℕ

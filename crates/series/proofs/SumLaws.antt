@@ -52,12 +52,12 @@ sum-term f zero i h = omega arith
 sum-term f (suc n) i h =
     elim (decLt i n) [ yes l ↦ omega (arith, sum-term f n i l) | no g ↦ let e : i ≡ n = omega arith in omega (arith, ap f e) ]
 
-pub length-listed : (f : ℕ → ℕ) (n : ℕ) → length (listed f n) ≡ n
+pub length-listed : {A : Type 0} (f : ℕ → A) (n : ℕ) → length (listed f n) ≡ n
 unfolding listed
 length-listed f zero = refl
 length-listed f (suc n) = length-append (listed f n) (f n ∷ []) ∙ omega (arith, length-listed f n)
 
-pub listed-cong : (f g : ℕ → ℕ) (n : ℕ) → ((i : ℕ) → i < n → f i ≡ g i) → listed f n ≡ listed g n
+pub listed-cong : {A : Type 0} (f g : ℕ → A) (n : ℕ) → ((i : ℕ) → i < n → f i ≡ g i) → listed f n ≡ listed g n
 unfolding listed
 listed-cong f g zero h = refl
 listed-cong f g (suc n) h = ap₂ (λ l x. l ++ (x ∷ [])) (listed-cong f g n (λ i l. h i (omega arith))) (h n (le-refl (suc n)))

@@ -45,18 +45,18 @@ rising-offsets T I k l (suc n) a r h =
     rising-append a I (offsets I k l n a′ r′) T (rising-more (a + I) a′ (offsets I k l n a′ r′) T (omega arith) (rising-offsets T I k l n a′ r′ (omega arith)))
 
 -- S lies above n whole blocks and within one more
-pub record Blocks (I S n : ℕ) : Type 0 where
+pub record BlockSum (I S n : ℕ) : Type 0 where
   pub is : blocks I S ≡ suc n
   pub above : I * n < S
   pub most : S ≤ I * n + I
 
-block-count : (I S q : ℕ) → 0 < I → 0 < S → blocks I S ≡ q → I * q ≤ S + (I - 1) → S + (I - 1) < I * (q + 1) → Blocks I S (q - 1)
+block-count : (I S q : ℕ) → 0 < I → 0 < S → blocks I S ≡ q → I * q ≤ S + (I - 1) → S + (I - 1) < I * (q + 1) → BlockSum I S (q - 1)
 block-count I S zero hi hs e low high = absurd (omega arith)
 block-count I S (suc n) hi hs e low high =
     let m : suc n - 1 ≡ n = omega arith in
     rw m (record { is = e; above = omega arith; most = omega arith })
 
-pub blocks-are : (I S : ℕ) → 0 < I → 0 < S → Blocks I S (blocks I S - 1)
+pub blocks-are : (I S : ℕ) → 0 < I → 0 < S → BlockSum I S (blocks I S - 1)
 unfolding blocks
 blocks-are I S hi hs = block-count I S (blocks I S) hi hs refl (mul-div-le (S + (I - 1)) I) (lt-mul-div-succ (S + (I - 1)) hi)
 
@@ -100,14 +100,14 @@ pub length-wheelOffsets : (I T S : ℕ) → 0 < I → 0 < S → length (wheelOff
 unfolding wheelOffsets
 length-wheelOffsets I T S hi hs =
     let n : ℕ = blocks I S - 1 in
-    let b : Blocks I S n = blocks-are I S hi hs in
+    let b : BlockSum I S n = blocks-are I S hi hs in
     length-offsets I (interval I T (blocks I S)) (S - I * n) n 0 0 ∙ omega (arith, b .above)
 
 pub rising-wheelOffsets : (I T S : ℕ) → 0 < I → 0 < S → S < T → blocks I S ≤ ONE → Rising 0 (wheelOffsets I T S) T
 unfolding wheelOffsets interval
 rising-wheelOffsets I T S hi hs less few =
     let n : ℕ = blocks I S - 1 in
-    let b : Blocks I S n = blocks-are I S hi hs in
+    let b : BlockSum I S n = blocks-are I S hi hs in
     let T1 : ℕ = blocks I S in
     let q : ℕ = (2 * (T * ONE) + T1) / (2 * T1) in
     let near : 2 * T1 * q ≤ 2 * (T * ONE) + T1 = mul-div-le (2 * (T * ONE) + T1) (2 * T1) in

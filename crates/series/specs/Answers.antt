@@ -1,9 +1,10 @@
 -- The document's numbers and values for each case of the enums of src/.
 use Prim.Native.Nat.{ℕ}
+use Rattle.series.specs.Results.{Result, refused, value}
 use Rattle.series.specs.declared.Refusal.{Refusal}
 use Rattle.series.specs.declared.Refusal.the-variants.{LengthsDiffer, TooManyPositions, NoPositions, OutputTooShort, AccountOrder, NoShorts, TotalTooLarge, NothingExercised, ExercisedAboveTotal, DrawOutOfRange, TextTooLong, NamesLine, Malformed, UnknownMethod, TooManyLines}
+use Rattle.series.specs.declared.Method.{Method}
 use Rattle.series.specs.declared.Answer.{Answer}
-use Rattle.series.specs.declared.Answer.the-variants.{Wheel, ProRata, Lottery, Refused}
 
 -- the number of a refusal
 abbrev pub numberOf : Refusal → ℕ
@@ -23,14 +24,15 @@ numberOf Malformed = 13
 numberOf UnknownMethod = 14
 numberOf TooManyLines = 15
 
--- what a call hands back: T and one further number, or the number of a refusal
-pub data Outcome : Type 0 where
-  allocation : ℕ → ℕ → Outcome
-  refusal : ℕ → Outcome
+-- what an allocation hands back: T and one further number, which its method gives a meaning
+pub record Allocation : Type 0 where
+  pub method : Method
+  pub total : ℕ
+  pub further : ℕ
 
--- what each answer of the allocating call hands back
-abbrev pub outcomeOf : Answer → Outcome
-outcomeOf (Wheel T T1) = allocation (T .0) T1
-outcomeOf (ProRata T left) = allocation (T .0) (left .0)
-outcomeOf (Lottery T p) = allocation (T .0) (p .0)
-outcomeOf (Refused r) = refusal (numberOf r)
+-- what each answer of the allocating call hands back: T1 for W, the contracts of round two for P, the starting place for L
+abbrev pub answerOf : Answer → Result Allocation
+answerOf (Answer.Wheel T T1) = value (record { method = Method.Wheel; total = T .0; further = T1 })
+answerOf (Answer.ProRata T left) = value (record { method = Method.ProRata; total = T .0; further = left .0 })
+answerOf (Answer.Lottery T p) = value (record { method = Method.Lottery; total = T .0; further = p .0 })
+answerOf (Answer.Refused r) = refused (numberOf r)

@@ -1,46 +1,42 @@
 -- The allocating call: its answer and its output for all inputs. A call is turned away by the first refusal that applies, and keeps its output.
 use Prim.Native.Nat.{ℕ}
-use mathlib.Core.List.{List, _++_}
-use lib.ListN.{length, drop}
-use Rattle.series.specs.Places.{total}
+use mathlib.Core.List.{List}
+use lib.ListN.{length}
+use Rattle.series.specs.Results.{Result, value, _>>=_, after}
+use Rattle.series.specs.Outputs.{onto}
+use Rattle.series.specs.Series.{Series, method, exercised, draw, held, byMethod}
 use Rattle.series.specs.Wheel.{wheel, blocksUsed}
 use Rattle.series.specs.ProRata.{proRata, remainder}
 use Rattle.series.specs.Lottery.{lottery, startingPlace}
-use Rattle.series.specs.Refusals.{Verdict, accepted, refused, verdict}
-use Rattle.series.specs.Answers.{Outcome, allocation, refusal}
-use Rattle.series.specs.declared.Method.{Method}
-use Rattle.series.specs.declared.Method.the-variants.{Wheel, ProRata, Lottery}
+use Rattle.series.specs.Refusals.{verdict}
+use Rattle.series.specs.Answers.{Allocation}
 
 -- the assignment increment of the call
 abbrev pub INCREMENT : ℕ
 INCREMENT = 25
 
--- the amounts that each method assigns
-unfoldable pub assigned : Method → List ℕ → ℕ → ℕ → List ℕ
-assigned Wheel hs S draw = wheel INCREMENT hs S draw
-assigned ProRata hs S draw = proRata hs S draw
-assigned Lottery hs S draw = lottery hs S (startingPlace (total hs) draw)
+-- the amounts that the method assigns: by the wheel, pro rata, from the starting place
+unfoldable pub assigned : Series → List ℕ
+assigned s =
+    byMethod (method s)
+    (wheel INCREMENT (s .shorts) (exercised s) (draw s))
+    (proRata (s .shorts) (exercised s) (draw s))
+    (lottery (s .shorts) (exercised s) (startingPlace (held s) (draw s)))
 
 -- the one further number: T1 for W (0 if S equals T), the contracts of round two for P, the starting place for L
-unfoldable pub further : Method → List ℕ → ℕ → ℕ → ℕ
-further Wheel hs S draw = blocksUsed INCREMENT (total hs) S
-further ProRata hs S draw = remainder hs S
-further Lottery hs S draw = startingPlace (total hs) draw
-
--- the answer that a verdict leads to
-unfoldable pub answerTo : Verdict → Method → List ℕ → ℕ → ℕ → Outcome
-answerTo accepted m hs S draw = allocation (total hs) (further m hs S draw)
-answerTo (refused n) m hs S draw = refusal n
-
--- the output that a verdict leads to: the amounts and what stood past them, or all that stood there
-unfoldable pub outputTo : Verdict → Method → List ℕ → ℕ → ℕ → List ℕ → List ℕ
-outputTo accepted m hs S draw old = assigned m hs S draw ++ drop (length hs) old
-outputTo (refused n) m hs S draw old = old
+unfoldable pub further : Series → ℕ
+further s =
+    byMethod (method s)
+    (blocksUsed INCREMENT (held s) (exercised s))
+    (remainder (s .shorts) (exercised s))
+    (startingPlace (held s) (draw s))
 
 -- the answer of the call; room is the length of the output
-unfoldable pub answer : Method → List ℕ → List ℕ → ℕ → ℕ → ℕ → Outcome
-answer m accounts shorts S draw room = answerTo (verdict m accounts shorts S draw room) m shorts S draw
+unfoldable pub answer : Series → ℕ → Result Allocation
+answer s room = do
+  T ← verdict s room
+  value (record { method = method s; total = T; further = further s })
 
--- the output of the call, which held old
-unfoldable pub output : Method → List ℕ → List ℕ → ℕ → ℕ → List ℕ → List ℕ
-output m accounts shorts S draw old = outputTo (verdict m accounts shorts S draw (length old)) m shorts S draw old
+-- the output of the call, which held old: the amounts and what stood past them, or all that stood there
+unfoldable pub output : Series → List ℕ → List ℕ
+output s old = after (verdict s (length old)) (λ _. onto (assigned s) old) old

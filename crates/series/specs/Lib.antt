@@ -1,6 +1,10 @@
--- Document 01 as definitions, in its order: words and places, the wheel, pro rata, the starting number, the refusals, the call.
+-- Document 01 as definitions, in its order: words and places, a series, the wheel, pro rata, the starting number, the refusals, the call.
+pub mod Ascii
+pub mod Results
+pub mod Outputs
 pub mod Sums
 pub mod Places
+pub mod Series
 pub mod Wheel
 pub mod ProRata
 pub mod Lottery

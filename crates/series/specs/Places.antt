@@ -1,6 +1,7 @@
 -- The contracts of a list, numbered 1 to T: the places on the wheel.
-use Prim.Native.Nat.{ℕ, zero, suc, _+_, _≤_}
-use mathlib.Core.Bool.{Bool, cond, _&&_}
+use Prim.Native.Nat.{ℕ, zero, suc, _+_, _≤_, _<_}
+use mathlib.Core.Path.{_≡_}
+use mathlib.Core.Bool.{Bool, true, cond, _&&_}
 use mathlib.Core.List.{List, [], _∷_}
 use lib.Dec.{eqb, ltb, leb}
 use lib.ListN.{length, getD, take}
@@ -46,6 +47,11 @@ before hs i = total (take i hs)
 -- the last contract of position i: the first position has 1 up to its shorts, each next one begins one above the last number before it
 unfoldable pub last : List ℕ → ℕ → ℕ
 last hs i = before hs i + getD hs i 0
+
+-- contract c belongs to position i
+pub record Belongs (hs : List ℕ) (i c : ℕ) : Type 0 where
+  pub position : i < length hs
+  pub in-range : within (before hs i) (last hs i) c ≡ true
 
 -- for each position the marks on its contracts
 unfoldable pub amounts : List ℕ → List ℕ → List ℕ

@@ -1,5 +1,5 @@
 -- Pro rata (P), source document 001.
-use Prim.Native.Nat.{ℕ, _+_, _-_, _*_, _/_, _%_, _^_}
+use Prim.Native.Nat.{ℕ, _+_, _-_, _*_, _/_, _%_, _^_, _<_}
 use mathlib.Core.List.{List}
 use lib.Dec.{eqb, ltb}
 use lib.ListN.{length, getD}
@@ -41,6 +41,11 @@ larger d x n = countBelow (λ i. ltb x (d i)) n
 -- how many of the first n positions have the decimal part x
 unfoldable pub equal : (ℕ → ℕ) → ℕ → ℕ → ℕ
 equal d x n = countBelow (λ i. eqb (d i) x) n
+
+-- a tie: the remainder runs out at the decimal part x, and not all positions that share it can be served
+pub record Tie (d : ℕ → ℕ) (n left x : ℕ) : Type 0 where
+  pub fewer : larger d x n < left
+  pub more : left < larger d x n + equal d x n
 
 -- how many of g tied positions come before number k + 1: number (draw modulo g) + 1 begins, and after number g comes number 1
 unfoldable pub turn : ℕ → ℕ → ℕ → ℕ

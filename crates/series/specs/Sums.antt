@@ -18,6 +18,6 @@ unfoldable pub countBelow : (ℕ → Bool) → ℕ → ℕ
 countBelow t n = sumBelow (λ i. bit (t i)) n
 
 -- f 0, f 1, .., f (n - 1)
-unfoldable pub listed : (ℕ → ℕ) → ℕ → List ℕ
+unfoldable pub listed : {A : Type 0} → (ℕ → A) → ℕ → List A
 listed f zero = []
 listed f (suc n) = listed f n ++ (f n ∷ [])

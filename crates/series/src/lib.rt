@@ -15,6 +15,13 @@ pub enum Method {
     Lottery,
 }
 
+// What a call is given of a series beside its lists: the method, the contracts exercised (S) and the draw.
+pub struct Terms {
+    pub method: Method,
+    pub exercised: Contracts,
+    pub draw: u32,
+}
+
 // Why a call is turned away, in the order of the numbers 1 to 15 of document 01.
 pub enum Refusal {
     LengthsDiffer,

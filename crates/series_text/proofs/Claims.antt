@@ -4,27 +4,32 @@ use Prim.Native.String.{String}
 use mathlib.Core.Path.{_≡_, refl}
 use mathlib.Core.List.{List, [], _∷_, _++_, map}
 use lib.ListN.{replicate}
-use Rattle.series.specs.declared.Method.the-variants.{Lottery}
-use Rattle.series_text.specs.Ascii.{ascii}
-use Rattle.series_text.specs.Results.{Result, refused, value}
+use Rattle.series.specs.Ascii.{ascii}
+use Rattle.series.specs.Results.{Result, refused, value, status}
+use Rattle.series.specs.Series.{Series}
+use Rattle.series.specs.Sums.{listed}
+use Rattle.series.specs.declared.Method.{Method}
 use Rattle.series_text.specs.Numbers.{digit, digits, spelled, amountFrom, amount, numeral, number, decimalIn, decimal}
-use Rattle.series_text.specs.Text.{Text, Terms, Position, Series, termsNames, positionNames, after, ends, field, past, fieldBy, numberBy, letter, methodBy, method, readTerms, readPosition, readPositions, readHead, readText, writeNumber, writeTerms, writePosition, writePositions, writeText}
-use Rattle.series_text.specs.Calls.{readInto, positionsOf, writeInto}
+use Rattle.series_text.specs.Fields.{Text, Read, ends, field, past, fieldBy, endBefore, readFields, writeNumber}
+use Rattle.series_text.specs.Rows.{numbers, readRow, readRows, writeRow, writeRows, rowsOf, column}
+use Rattle.series_text.specs.Names.{line1, line3, namesLine, afterLine, headingOr, readNames}
+use Rattle.series_text.specs.Letters.{letter, methodBy, methodOf}
+use Rattle.series_text.specs.Text.{readTerms, readHead, readText, writeTerms, writeHead, writeText}
+use Rattle.series_text.specs.Calls.{readInto, evenly, lineCount, linesInto, writeInto}
+use Rattle.series_text.specs.declared.names.Heading.{Heading}
 
 -- the line `unfolding` names every definition that reading computes with
 reading : Text → Result Series
-unfolding digit digits spelled amountFrom amount numeral number termsNames positionNames after ends field past fieldBy numberBy letter methodBy method readTerms readPosition readPositions readHead readText ascii
+unfolding digit digits spelled amountFrom amount numeral number ends field past fieldBy endBefore readFields numbers readRow readRows column namesLine afterLine headingOr readNames letter methodBy methodOf readTerms readHead readText ascii
 reading s = readText s
-
-abbrev position : ℕ → ℕ → Position
-position a h = record { account = a; short = h }
 
 -- case M
 pub M : Series
 M =
     record {
-      terms = record { method = Lottery; exercised = 13; draw = 4855 };
-      positions = position 1 5 ∷ position 2 8 ∷ position 3 2 ∷ position 4 10 ∷ position 5 11 ∷ [];
+      terms = record { method = Method.Lottery; exercised = record { 0 = 13 }; draw = 4855 };
+      accounts = 1 ∷ 2 ∷ 3 ∷ 4 ∷ 5 ∷ [];
+      shorts = 5 ∷ 8 ∷ 2 ∷ 10 ∷ 11 ∷ [];
     }
 
 pub M-text : Text
@@ -34,8 +39,13 @@ pub M-read : readText M-text ≡ value M
 unfolding reading M M-text
 M-read = refl
 
+-- the definitions that writing computes with
+writing : Series → ℕ → Result Text
+unfolding M M-text ascii decimalIn decimal writeNumber endBefore writeRow writeRows listed rowsOf namesLine letter writeTerms writeHead writeText evenly lineCount linesInto writeInto
+writing t room = writeInto t room
+
 pub M-written : writeText M ≡ M-text
-unfolding M M-text ascii decimalIn decimal letter termsNames positionNames writeNumber writeTerms writePosition writePositions writeText
+unfolding writing
 M-written = refl
 
 -- n times the text t
@@ -48,31 +58,31 @@ pub head : Text
 head = ascii "method,exercised,draw\nW,1,1\naccount,short\n"
 
 -- a text and the number of its refusal, 0 where it is read
-pub record Row : Type 0 where
+pub record TextCase : Type 0 where
   pub number : ℕ
   pub text : Text
 
 -- a text from its first line on
-abbrev whole : ℕ → String → Row
+abbrev whole : ℕ → String → TextCase
 whole n s = record { number = n; text = ascii s }
 
 -- a text after a good line 1
-abbrev terms : ℕ → String → Row
-terms n s = record { number = n; text = termsNames ++ ascii s }
+abbrev terms : ℕ → String → TextCase
+terms n s = record { number = n; text = namesLine Heading.Terms ++ ascii s }
 
 -- a text after three good lines
-abbrev lines : ℕ → String → Row
+abbrev lines : ℕ → String → TextCase
 lines n s = record { number = n; text = head ++ ascii s }
 
 -- a text after three good lines and 1,024 good position lines
-abbrev most : ℕ → String → Row
+abbrev most : ℕ → String → TextCase
 most n s = record { number = n; text = head ++ (repeated 1024 (ascii "1,1\n") ++ ascii s) }
 
 -- n bytes, after the text s
-abbrev long : ℕ → Text → ℕ → Row
+abbrev long : ℕ → Text → ℕ → TextCase
 long r s n = record { number = r; text = s ++ replicate n 49 }
 
-pub texts : List Row
+pub texts : List TextCase
 texts =
     -- read: no positions, the largest number, zero, 1,024 positions
     lines 0 "" ∷
@@ -139,35 +149,60 @@ texts =
     most 15 "\n" ∷ []
 
 -- the number of the refusal that each text meets, 0 where it is read
-pub numbers : List Row → List ℕ
-numbers rows = map (λ r. refusal (readText (r .text))) rows
-  where
-    refusal : Result Series → ℕ
-    refusal (refused n) = n
-    refusal (value t) = 0
-
-pub judged : numbers texts ≡ map (λ r. r .number) texts
-unfolding numbers reading ascii termsNames repeated head texts
+pub judged : map (λ r. status (readText (r .text))) texts ≡ map (λ r. r .number) texts
+unfolding reading repeated head texts
 judged = refl
 
--- the definitions that writing computes with
-writing : Terms → List ℕ → List ℕ → ℕ → Result Text
-unfolding M M-text ascii decimalIn decimal letter termsNames positionNames writeNumber writeTerms writePosition writePositions writeText positionsOf writeInto
-writing t accounts shorts room = writeInto t accounts shorts room
+-- the headings that are known, a text, and what reading its names line gives
+pub record NamesRow : Type 0 where
+  pub known : List Heading
+  pub text : Text
+  pub answer : Result (Read Heading)
 
-pub M-accounts : List ℕ
-M-accounts = 1 ∷ 2 ∷ 3 ∷ 4 ∷ 5 ∷ []
+-- the heading h is found in the text, and what follows its line is left
+abbrev found : List Heading → String → Heading → String → NamesRow
+found known s h rest = record { known = known; text = ascii s; answer = value (record { found = h; rest = ascii rest }) }
 
-pub M-shorts : List ℕ
-M-shorts = 5 ∷ 8 ∷ 2 ∷ 10 ∷ 11 ∷ []
+-- no known heading is found in the text
+abbrev unknown : List Heading → String → NamesRow
+unknown known s = record { known = known; text = ascii s; answer = refused 12 }
+
+pub names : List NamesRow
+names =
+    -- the line, and nothing after it or a byte too many
+    found line1 "method,exercised,draw\n" Heading.Terms "" ∷
+    found line1 "method,exercised,draw\nW" Heading.Terms "W" ∷
+    found line3 "account,short\n" Heading.Positions "" ∷
+    found line3 "account,short\n1" Heading.Positions "1" ∷
+    -- no byte 10, a byte too many before it, a byte too few
+    unknown line1 "method,exercised,draw" ∷
+    unknown line1 "method,exercised,draws\n" ∷
+    unknown line1 "method,exercised,dra\n" ∷
+    unknown line3 "account,short" ∷
+    unknown line3 "account,shorts\n" ∷
+    unknown line3 "account,shor\n" ∷
+    -- the words of line 3 in the place of line 1, and of line 1 in the place of line 3
+    unknown line1 "account,short\n" ∷
+    unknown line3 "method,exercised,draw\n" ∷
+    -- no text
+    unknown line1 "" ∷
+    unknown line3 "" ∷ []
+
+pub names-judged : map (λ r. readNames (r .known) (r .text)) names ≡ map (λ r. r .answer) names
+unfolding reading names
+names-judged = refl
+
+-- M's terms with other accounts and shorts
+abbrev M-with : List ℕ → List ℕ → Series
+M-with accounts shorts = record { terms = M .terms; accounts = accounts; shorts = shorts }
 
 -- case M, 68 bytes: 1 before 15, 15 before 4, 4 where a byte is missing
 pub M-writing :
-    (writeInto (M .terms) (replicate 1025 1) (replicate 1024 1) 0 ≡ refused 1)
-    × (writeInto (M .terms) (replicate 1025 1) (replicate 1025 1) 0 ≡ refused 15)
-    × (writeInto (M .terms) M-accounts M-shorts 67 ≡ refused 4)
-    × (writeInto (M .terms) M-accounts M-shorts 68 ≡ value M-text)
-unfolding writing M-accounts M-shorts
+    (writeInto (M-with (replicate 1025 1) (replicate 1024 1)) 0 ≡ refused 1)
+    × (writeInto (M-with (replicate 1025 1) (replicate 1025 1)) 0 ≡ refused 15)
+    × (writeInto M 67 ≡ refused 4)
+    × (writeInto M 68 ≡ value M-text)
+unfolding writing
 M-writing = (refl, refl, refl, refl)
 
 -- last of all 4: a lent list is shorter than the positions

@@ -9,9 +9,11 @@ use borrow.Author.Tests.{lt-leb, le-leb, eq-eqb, ne-eqb}
 use lib.Dec.{eqb}
 use lib.ListN.{length, getD, take, drop, drop-of-length-le}
 use lib.Seq.{slice, slice-empty, slice-cons, take-suc, drop-cons, drop-append-le, length-take-le}
-use Rattle.series_text.specs.Results.{Result, refused, value, _>>=_}
+use Rattle.series.specs.Results.{Result, refused, value, _>>=_}
+use Rattle.series_text.specs.Fields.{Text, Read, ends, field, past, fieldBy}
+use Rattle.series_text.specs.Names.{afterLine}
+use Rattle.series_text.specs.Parts.{numberBy}
 use Rattle.series_text.specs.Numbers.{digit, digits, spelled, amountFrom, amount, numeral, number, LARGEST}
-use Rattle.series_text.specs.Text.{Text, Read, after, ends, field, past, fieldBy, numberBy}
 
 -- ---- a part of a text from one index to another
 
@@ -265,24 +267,24 @@ module _ (c : ℕ) (s : Text) (at i n : ℕ) (so : NumberTo c s at i n) where
 
 -- what a loop over the bytes of a line p keeps: i of them are compared, up to index j of the text s
 abbrev pub ComparedTo : Text → Text → ℕ → ℕ → ℕ → Type 0
-ComparedTo p s at i j = after p (drop at s) ≡ after (drop i p) (drop j s)
+ComparedTo p s at i j = afterLine p (drop at s) ≡ afterLine (drop i p) (drop j s)
 
 -- the text ends too early
-pub line-none : (p s : Text) (at i j : ℕ) → i < length p → length s ≤ j → ComparedTo p s at i j → after p (drop at s) ≡ refused 12
-unfolding after
+pub line-none : (p s : Text) (at i j : ℕ) → i < length p → length s ≤ j → ComparedTo p s at i j → afterLine p (drop at s) ≡ refused 12
+unfolding afterLine
 line-none p s at i j lt le so = so ∙ rw (drop-more i p lt, drop-of-length-le s le)
 
 -- another byte stands there
-pub line-other : (p s : Text) (at i j : ℕ) → i < length p → j < length s → (getD s j 0 ≡ getD p i 0 → ⊥) → ComparedTo p s at i j → after p (drop at s) ≡ refused 12
-unfolding after
+pub line-other : (p s : Text) (at i j : ℕ) → i < length p → j < length s → (getD s j 0 ≡ getD p i 0 → ⊥) → ComparedTo p s at i j → afterLine p (drop at s) ≡ refused 12
+unfolding afterLine
 line-other p s at i j lt lt′ ne so = so ∙ rw (drop-more i p lt, drop-more j s lt′, ne-eqb (getD p i 0) (getD s j 0) (λ e. ne (sym e)))
 
 -- the same byte stands there
 pub line-more : (p s : Text) (at i j : ℕ) → i < length p → j < length s → getD s j 0 ≡ getD p i 0 → ComparedTo p s at i j → ComparedTo p s at (i + 1) (j + 1)
-unfolding after
+unfolding afterLine
 line-more p s at i j lt lt′ e so = so ∙ rw (drop-more i p lt, drop-more j s lt′, eq-eqb (getD p i 0) (getD s j 0) (sym e))
 
 -- the line is compared whole
-pub line-end : (p s : Text) (at i j : ℕ) → length p ≤ i → ComparedTo p s at i j → after p (drop at s) ≡ value (drop j s)
-unfolding after
+pub line-end : (p s : Text) (at i j : ℕ) → length p ≤ i → ComparedTo p s at i j → afterLine p (drop at s) ≡ value (drop j s)
+unfolding afterLine
 line-end p s at i j le so = so ∙ rw (drop-of-length-le p le)

@@ -1,39 +1,87 @@
--- Laws of the lines of a text, read one after the other.
+-- Laws of the lines of a text: the names lines, rows of numbers, line 2, lines 1 to 3, and the lines to the end.
 use Prim.Native.Nat.{ℕ, zero, suc, _+_, _-_, _≤_, _<_}
 use mathlib.Core.Path.{_≡_, refl, sym, ap, subst, _∙_}
+use mathlib.Core.Bool.{Bool, true, false, cond, false≢true}
 use mathlib.Core.List.{List, [], _∷_, _++_, append-assoc, append-nil}
 use native.Mathlib.Omega.{arith}
-use borrow.Author.Tests.{lt-ltb, le-ltb}
 use native.Mathlib.Nat.{sub-zero}
+use native.Mathlib.Numerals.{add-one}
+use denote.Enum.Declared.{tagOf}
+use types.Run.{OneOf}
+use mathlib.Core.Logic.{⊎-elim}
+use borrow.Author.Tests.{lt-ltb, le-ltb}
+use lib.Dec.{eqb}
 use lib.ListN.{length, getD, take, drop, set, drop-of-length-le}
-use lib.Seq.{slice, slice-empty, slice-cons}
+use lib.Seq.{slice, slice-empty, slice-cons, take-suc-set, take-all}
+use Rattle.series.specs.Results.{Result, refused, value, _>>=_}
 use Rattle.series.specs.declared.Method.{Method}
-use Rattle.series_text.specs.Results.{Result, refused, value, _>>=_}
-use Rattle.series_text.specs.Numbers.{number}
-use Rattle.series_text.specs.Text.{Text, COMMA, NEWLINE, Read, Terms, Position, termsNames, positionNames, after, fieldBy, numberBy, methodBy, method, readTerms, readHead, readPosition, readPositions}
-use Rattle.series_text.specs.Calls.{positionsOf}
-use Rattle.series_text.specs.Parts.{foundMeans, foundWithin}
+use Rattle.series.specs.declared.Terms.{Terms}
+use Rattle.series.proofs.ResultLaws.{never}
+use Rattle.series_text.specs.Numbers.{numeral, number}
+use Rattle.series_text.specs.Fields.{Text, COMMA, NEWLINE, Read, ends, field, past, fieldBy, endBefore, readFields}
+use Rattle.series_text.specs.Rows.{numbers, readRow, readRows}
+use Rattle.series_text.specs.Names.{line1, line3, namesLine, afterLine, headingOr, readNames}
+use Rattle.series_text.specs.Letters.{methodBy, methodOf}
+use Rattle.series_text.specs.Text.{MOST_BYTES, readTerms, readHead}
+use Rattle.series_text.specs.Parts.{numberBy, foundMeans, foundWithin, fieldsThenNumbers, fieldsMean, foundFields}
+use Rattle.series_text.specs.declared.row.Fields.{Fields}
+use Rattle.series_text.proofs.RowLaws.{end-ends, rows-none}
+use Rattle.series_text.proofs.row.Fields.{the-type}
 use Rattle.series_text.specs.declared.field.Found.{Found}
-use Rattle.series_text.proofs.FieldLaws.{drop-more}
-use Rattle.series_text.proofs.PositionLaws.{positionsOf-set}
+use Rattle.series_text.specs.declared.names.Heading.{Heading}
+use Rattle.series_text.proofs.FieldLaws.{drop-more, numbered, numberBy-numbered}
 
--- ---- the method
+-- ---- the names lines
 
--- a field that is not one byte
-pub method-other : (f : Text) → (length f ≡ 1 → ⊥) → method f ≡ refused 14
-unfolding method
-method-other [] ne = refl
-method-other (b ∷ []) ne = absurd (ne refl)
-method-other (b ∷ c ∷ f) ne = refl
+-- one known heading: r is the text after its line
+pub names-read : (h : Heading) (s : Text) (r : Result Text) → r ≡ afterLine (namesLine h) s → headingOr h r (refused 12) ≡ readNames (h ∷ []) s
+unfolding readNames
+names-read h s r e = ap (λ (x : Result Text). headingOr h x (refused 12)) e
 
--- a field that is one byte of the text
-pub method-one : (a b : ℕ) (s : Text) → suc a ≡ b → b ≤ length s → method (slice a b s) ≡ methodBy (getD s a 0)
-unfolding method
-method-one a b s e le =
-    let lt : a < b = omega arith in
-    rw (slice-cons a b s 0 lt le, e, slice-empty b s)
+-- ---- the byte that ends a field
 
--- ---- line 2
+-- no field follows
+pub end-last : (k : ℕ) → k ≡ 0 → NEWLINE ≡ endBefore k
+unfolding endBefore
+end-last k e = rw e
+
+-- a field follows
+pub end-other : (k : ℕ) → (k ≡ 0 → ⊥) → COMMA ≡ endBefore k
+unfolding endBefore
+end-other zero ne = absurd (ne refl)
+end-other (suc k) ne = refl
+
+-- ---- the fields of a line
+
+-- the only refusal is n
+pub Only : ℕ → {A : Type 0} → Result A → Type 0
+Only n (refused m) = m ≡ n
+Only n (value a) = Unit {0}
+
+only-then : (n : ℕ) {A B : Type 0} (r : Result A) (f : A → Result B) → Only n r → ((a : A) → Only n (f a)) → Only n (r >>= f)
+unfolding Only
+only-then n (refused m) f h k = h
+only-then n (value a) f h k = k a
+
+past-only : (c : ℕ) (s : Text) → Only 13 (past c s)
+unfolding Only past
+past-only c [] = refl
+past-only c (b ∷ s) = go (eqb b c)
+  where
+    go : (t : Bool) → Only 13 (cond t (value s) (refused 13))
+    go true = tt
+    go false = refl
+
+field-only : (c : ℕ) (s : Text) → Only 13 (fieldBy c s)
+unfolding Only fieldBy
+field-only c s = only-then 13 (past c (drop (length (field s)) s)) _ (past-only c (drop (length (field s)) s)) (λ _. tt)
+
+fields-only : (k : ℕ) (s : Text) → Only 13 (readFields k s)
+unfolding Only readFields
+fields-only zero s = tt
+fields-only (suc k) s =
+    only-then 13 (fieldBy (endBefore k) s) _ (field-only (endBefore k) s)
+    (λ f. only-then 13 (readFields k (f .rest)) _ (fields-only k (f .rest)) (λ _. tt))
 
 -- a field that was found
 pub record FoundAt (s : Text) (at c e : ℕ) : Type 0 where
@@ -46,164 +94,320 @@ found-at s at c e r is means within =
     let w : (at ≤ e) × (e < length s) = subst (foundWithin at (length s)) is within in
     record { reads = ap (foundMeans s at) (sym is) ∙ means; after = w .0; within = w .1 }
 
--- the number of a field that is found, as the number read from it
-founds : Result (Read ℕ) → Result ℕ
-founds (refused n) = refused n
-founds (value x) = value (x .found)
+-- what the loop over the fields keeps: of k fields from index at on, those that are left are still to be found from index next on
+pub record FieldsTo (k : ℕ) (s : Text) (at next left : ℕ) : Type 0 where
+  pub found : foundFields (readFields k (drop at s)) ≡ foundFields (readFields left (drop next s))
 
-number-found : (c : ℕ) (s : Text) (f : Read Text) → value f ≡ fieldBy c s → number (f .found) ≡ founds (numberBy c s)
-unfolding numberBy founds
-number-found c s f e = rw (← e) (go (number (f .found)))
+module _ {k : ℕ} {s : Text} {at next left : ℕ} (so : FieldsTo k s at next left) where
+  -- all are there
+  pub fields-all : left ≡ 0 → true ≡ foundFields (readFields k (drop at s))
+  unfolding readFields
+  fields-all e = sym (so .found ∙ rw e)
+
+  module _ {j : ℕ} (e : left ≡ suc j) where
+    -- one is missing
+    pub fields-missing : refused 13 ≡ fieldBy (endBefore j) (drop next s) → false ≡ foundFields (readFields k (drop at s))
+    unfolding readFields
+    fields-missing h = sym (so .found ∙ rw (e, ← h))
+
+    -- one more is there
+    pub fields-more : {f : Text} {after : ℕ} → value (record { found = f; rest = drop after s }) ≡ fieldBy (endBefore j) (drop next s) → FieldsTo k s at after j
+    unfolding readFields
+    fields-more {f} {after} h = record { found = so .found ∙ rw (e, ← h) (go (readFields j (drop after s))) }
+      where
+        go : (r : Result (Read (List Text))) → foundFields {A = Read (List Text)} (r >>= λ fs. value (record { found = f ∷ fs .found; rest = fs .rest })) ≡ foundFields r
+        go (refused n) = refl
+        go (value fs) = refl
+
+-- ---- a row of numbers
+
+-- the fields of a line, from its first field on
+lineBy : ℕ → Result (Read Text) → Result (Read (List Text))
+lineBy k r = r >>= λ f. readFields k (f .rest) >>= λ fs. value (record { found = f .found ∷ fs .found; rest = fs .rest })
+
+-- numbers, and the text after them
+abbrev before : Text → Result (List ℕ) → Result (Read (List ℕ))
+before u q = q >>= λ ns. value (record { found = ns; rest = u })
+
+-- the fields of a line as numbers
+valued : Result (Read (List Text)) → Result (Result (Read (List ℕ)))
+valued r = r >>= λ fs. value (before (fs .rest) (numbers (fs .found)))
+
+valued-line : (k : ℕ) (s : Text) → fieldsThenNumbers (suc k) s ≡ valued (lineBy k (fieldBy (endBefore k) s))
+unfolding fieldsThenNumbers readFields valued lineBy
+valued-line k s = refl
+
+-- the numbers ns in front of those that are read
+unfoldable pub inFront : List ℕ → Result (Result (Read (List ℕ))) → Result (Result (Read (List ℕ)))
+inFront ns (refused n) = refused n
+inFront ns (value (refused n)) = value (refused n)
+inFront ns (value (value x)) = value (value (record { found = ns ++ x .found; rest = x .rest }))
+
+inFront-nil : (r : Result (Result (Read (List ℕ)))) → r ≡ inFront [] r
+unfolding inFront
+inFront-nil (refused n) = refl
+inFront-nil (value (refused n)) = refl
+inFront-nil (value (value x)) = refl
+
+inFront-inFront : (ms ns : List ℕ) (r : Result (Result (Read (List ℕ)))) → inFront ms (inFront ns r) ≡ inFront (ms ++ ns) r
+unfolding inFront
+inFront-inFront ms ns (refused n) = refl
+inFront-inFront ms ns (value (refused n)) = refl
+inFront-inFront ms ns (value (value x)) = rw append-assoc
+
+-- a first number, and then the others
+numbers-more : (k : ℕ) (s : Text) (x : Read ℕ) → value x ≡ numberBy (endBefore k) s → fieldsThenNumbers (suc k) s ≡ inFront (x .found ∷ []) (fieldsThenNumbers k (x .rest))
+unfolding fieldsThenNumbers valued lineBy inFront numbers numbered
+numbers-more k s x e = valued-line k s ∙ go (fieldBy (endBefore k) s) (e ∙ numberBy-numbered (endBefore k) s)
   where
-    go : (r : Result ℕ) → r ≡ founds (r >>= λ n. value (record { found = n; rest = f .rest }))
-    go (refused n) = refl
-    go (value n) = refl
+    others : (n : ℕ) (q : Result (List ℕ)) (u : Text)
+        → value (before u (q >>= λ ns. value (n ∷ ns))) ≡ inFront (n ∷ []) (value (before u q))
+    others n (refused m) u = refl
+    others n (value ns) u = refl
 
-pub number-of : (c : ℕ) (s : Text) (f : Read Text) (x : Read ℕ) → value f ≡ fieldBy c s → value x ≡ numberBy c s → number (f .found) ≡ value (x .found)
-unfolding founds
-number-of c s f x e h = number-found c s f e ∙ ap founds (sym h)
+    rest : (f : Text) (n : ℕ) (q : Result (Read (List Text))) → number f ≡ value n
+        → valued (q >>= λ fs. value (record { found = f ∷ fs .found; rest = fs .rest })) ≡ inFront (n ∷ []) (valued q)
+    rest f n (refused m) i = refl
+    rest f n (value fs) i = rw i (others n (numbers (fs .found)) (fs .rest))
 
-pub number-none : (c : ℕ) (s : Text) (f : Read Text) → value f ≡ fieldBy c s → refused 13 ≡ numberBy c s → number (f .found) ≡ refused 13
-unfolding founds
-number-none c s f e h = number-found c s f e ∙ ap founds (sym h)
+    picked : (f : Read Text) (q : Result ℕ) → number (f .found) ≡ q → value x ≡ (q >>= λ n. value (record { found = n; rest = f .rest })) → valued (lineBy k (value f)) ≡ inFront (x .found ∷ []) (valued (readFields k (x .rest)))
+    picked f (refused m) i e = absurd (never m x (sym e))
+    picked f (value n) i e =
+        let is : x ≡ record { found = n; rest = f .rest } = cc in
+        rw is (rest (f .found) n (readFields k (f .rest)) i)
 
+    go : (r : Result (Read Text)) → value x ≡ numbered r → valued (lineBy k r) ≡ inFront (x .found ∷ []) (valued (readFields k (x .rest)))
+    go (refused m) e = absurd (never m x (sym e))
+    go (value f) e = picked f (number (f .found)) refl e
+
+-- the first field is no number, in a line that has its fields
+numbers-none : (k : ℕ) (s : Text) → refused 13 ≡ numberBy (endBefore k) s → true ≡ foundFields (readFields (suc k) s) → value (refused 13) ≡ fieldsThenNumbers (suc k) s
+unfolding readFields valued lineBy numbers numbered
+numbers-none k s e found = go (fieldBy (endBefore k) s) (e ∙ numberBy-numbered (endBefore k) s) found ∙ sym (valued-line k s)
+  where
+    picked : (fs : List Text) (u : Text) (q : Result ℕ) (v : Text) → _≡_ {A = Result (Read ℕ)} (refused 13) (q >>= λ n. value (record { found = n; rest = v }))
+        → value (refused 13) ≡ value (before u (q >>= λ n. numbers fs >>= λ ns. value (n ∷ ns)))
+    picked fs u (refused m) v e = cc
+    picked fs u (value n) v e = absurd (never 13 _ e)
+
+    rest : (f : Read Text) (q : Result (Read (List Text))) → refused 13 ≡ numbered (value f) → true ≡ foundFields {A = Read (List Text)} (q >>= λ fs. value (record { found = f .found ∷ fs .found; rest = fs .rest }))
+        → value (refused 13) ≡ valued (q >>= λ fs. value (record { found = f .found ∷ fs .found; rest = fs .rest }))
+    rest f (refused m) e found = absurd (false≢true (sym found))
+    rest f (value fs) e found = picked (fs .found) (fs .rest) (number (f .found)) (f .rest) e
+
+    go : (r : Result (Read Text)) → refused 13 ≡ numbered r → true ≡ foundFields (lineBy k r) → value (refused 13) ≡ valued (lineBy k r)
+    go (refused m) e found = absurd (false≢true (sym found))
+    go (value f) e found = rest f (readFields k (f .rest)) e found
+
+-- the fields are not there
+numbers-missing : (k : ℕ) (s : Text) → false ≡ foundFields (readFields k s) → refused 13 ≡ fieldsThenNumbers k s
+unfolding fieldsThenNumbers valued Only
+numbers-missing k s found = go (readFields k s) (fields-only k s) found
+  where
+    go : (r : Result (Read (List Text))) → Only 13 r → false ≡ foundFields r → refused 13 ≡ valued r
+    go (refused m) h found = rw h
+    go (value fs) h found = absurd (false≢true found)
+
+-- what the loop over the numbers of a row keeps: i of them stand first in the row, and those that are left are still to be read from index next on
+pub record RowTo (k : ℕ) (s : Text) (at : ℕ) (row : List ℕ) (next i left : ℕ) : Type 0 where
+  pub reads : fieldsThenNumbers k (drop at s) ≡ inFront (take i row) (fieldsThenNumbers left (drop next s))
+
+pub row-start : {k : ℕ} {s : Text} {at : ℕ} {row : List ℕ} {left : ℕ} → left ≡ k → RowTo k s at row at 0 left
+row-start {k} {s} {at} e = record { reads = rw e (inFront-nil (fieldsThenNumbers k (drop at s))) }
+
+module _ {k : ℕ} {s : Text} {at : ℕ} {row : List ℕ} {next i left : ℕ} (so : RowTo k s at row next i left) where
+  -- the row is read
+  pub row-end : left ≡ 0 → length row ≤ i → value (value (record { found = row; rest = drop next s })) ≡ fieldsThenNumbers k (drop at s)
+  unfolding fieldsThenNumbers readFields numbers inFront
+  row-end e le = sym (so .reads ∙ rw (e, append-nil, take-all i row le))
+
+  -- the fields are not there
+  pub row-missing : false ≡ foundFields (readFields left (drop next s)) → refused 13 ≡ fieldsThenNumbers k (drop at s)
+  unfolding inFront
+  row-missing found = sym (so .reads ∙ rw (← numbers-missing left (drop next s) found))
+
+  module _ {j : ℕ} (e : left ≡ suc j) where
+    -- one more number
+    pub row-more : {n after : ℕ} → i < length row → value (record { found = n; rest = drop after s }) ≡ numberBy (endBefore j) (drop next s) → RowTo k s at (set row i n) after (i + 1) j
+    row-more {n} {after} lt h =
+        let split : take (i + 1) (set row i n) ≡ take i row ++ (n ∷ []) = rw add-one (take-suc-set row i n lt) in
+        record {
+          reads =
+              so .reads
+              ∙ rw (e, split, numbers-more j (drop next s) (record { found = n; rest = drop after s }) h)
+              (inFront-inFront (take i row) (n ∷ []) (fieldsThenNumbers j (drop after s)));
+        }
+
+    -- the fields are there, and one of them is no number
+    pub row-malformed : refused 13 ≡ numberBy (endBefore j) (drop next s) → true ≡ foundFields (readFields left (drop next s)) → value (refused 13) ≡ fieldsThenNumbers k (drop at s)
+    unfolding inFront
+    row-malformed h found =
+        let found′ : true ≡ foundFields (readFields (suc j) (drop next s)) = rw e at found in
+        sym (so .reads ∙ rw (e, ← numbers-none j (drop next s) h found′))
+
+-- ---- the method
+
+-- a field that is not one byte
+pub method-other : (f : Text) → (length f ≡ 1 → ⊥) → methodOf f ≡ refused 14
+unfolding methodOf
+method-other [] ne = refl
+method-other (b ∷ []) ne = absurd (ne refl)
+method-other (b ∷ c ∷ f) ne = refl
+
+-- a field that is one byte of the text
+pub method-one : (a b : ℕ) (s : Text) → suc a ≡ b → b ≤ length s → methodOf (slice a b s) ≡ methodBy (getD s a 0)
+unfolding methodOf
+method-one a b s e le =
+    let lt : a < b = omega arith in
+    rw (slice-cons a b s 0 lt le, e, slice-empty b s)
+
+-- ---- line 2
+
+-- the values of line 2, from the method and the numbers
+abbrev pub termsOf : Method → List ℕ → Terms
+termsOf how ns = record { method = how; exercised = record { 0 = getD ns 0 0 }; draw = getD ns 1 0 }
+
+-- what line 2 comes to, from what its fields and its method are
+termsBy : Result (Result (Read (List ℕ))) → Result Method → Result (Read Terms)
+termsBy r m = r >>= λ q. m >>= λ how. q >>= λ x. value (record { found = termsOf how (x .found); rest = x .rest })
+
+terms-by : (s : Text) (m : Read Text) → value m ≡ fieldBy COMMA s → termsBy (fieldsThenNumbers 2 (m .rest)) (methodOf (m .found)) ≡ readTerms s
+unfolding readTerms termsBy fieldsThenNumbers valued
+terms-by s m h = rw (← h) (go (readFields 2 (m .rest)) (methodOf (m .found)))
+  where
+    last : (how : Method) (u : Text) (q : Result (List ℕ))
+        → _≡_ {A = Result (Read Terms)} (before u q >>= λ x. value (record { found = termsOf how (x .found); rest = x .rest })) (q >>= λ ns. value (record { found = termsOf how ns; rest = u }))
+    last how u (refused n) = refl
+    last how u (value ns) = refl
+
+    go : (r : Result (Read (List Text))) (w : Result Method)
+        → termsBy (valued r) w ≡ (r >>= λ fs. w >>= λ how. numbers (fs .found) >>= λ ns. value (record { found = termsOf how ns; rest = fs .rest }))
+    go (refused n) w = refl
+    go (value fs) (refused n) = refl
+    go (value fs) (value how) = last how (fs .rest) (numbers (fs .found))
+
+-- no comma ends the first field
 pub terms-first : (s : Text) → refused 13 ≡ fieldBy COMMA s → refused 13 ≡ readTerms s
 unfolding readTerms
 terms-first s h = rw (← h)
 
-pub terms-second : (s : Text) (m : Read Text) → value m ≡ fieldBy COMMA s → refused 13 ≡ fieldBy COMMA (m .rest) → refused 13 ≡ readTerms s
-unfolding readTerms
-terms-second s m hm h = rw (← hm, ← h)
+module _ (s : Text) {m : Read Text} (hm : value m ≡ fieldBy COMMA s) where
+  -- r is what the fields after it are, and w what the method is
+  terms-read : {r : Result (Result (Read (List ℕ)))} {w : Result Method} → r ≡ fieldsThenNumbers 2 (m .rest) → w ≡ methodOf (m .found) → termsBy r w ≡ readTerms s
+  terms-read hr hw = rw (hr, hw) (terms-by s m hm)
 
-pub terms-third : (s : Text) (m e : Read Text) → value m ≡ fieldBy COMMA s → value e ≡ fieldBy COMMA (m .rest) → refused 13 ≡ fieldBy NEWLINE (e .rest) → refused 13 ≡ readTerms s
-unfolding readTerms
-terms-third s m e hm he h = rw (← hm, ← he, ← h)
+  -- the fields after it are not there
+  pub terms-missing : refused 13 ≡ fieldsThenNumbers 2 (m .rest) → refused 13 ≡ readTerms s
+  unfolding termsBy
+  terms-missing h = terms-read h refl
 
--- three fields and byte 10 are there
-module _ (s : Text) (m e d : Read Text) (hm : value m ≡ fieldBy COMMA s) (he : value e ≡ fieldBy COMMA (m .rest)) (hd : value d ≡ fieldBy NEWLINE (e .rest)) where
-  pub terms-method : refused 14 ≡ method (m .found) → refused 14 ≡ readTerms s
-  unfolding readTerms
-  terms-method h = rw (← hm, ← he, ← hd, ← h)
+  -- they are there, and the method is unknown
+  pub terms-unknown : (t : Text) (row : List ℕ) (r : Fields) → OneOf (0 ∷ 1 ∷ []) (tagOf the-type r) → fieldsMean t row r ≡ fieldsThenNumbers 2 (m .rest) → refused 14 ≡ methodOf (m .found) → refused 14 ≡ readTerms s
+  unfolding termsBy
+  terms-unknown t row (Fields.Numbers next) k h hw = terms-read h hw
+  terms-unknown t row Fields.Malformed k h hw = terms-read h hw
+  terms-unknown t row Fields.Missing k h hw = absurd (⊎-elim (λ z. omega arith) (λ z. omega arith) k)
 
-  pub terms-exercised : (how : Method) → value how ≡ method (m .found) → refused 13 ≡ numberBy COMMA (m .rest) → refused 13 ≡ readTerms s
-  unfolding readTerms
-  terms-exercised how hh h = rw (← hm, ← he, ← hd, ← hh, number-none COMMA (m .rest) e he h)
+  module _ {how : Method} (hw : value how ≡ methodOf (m .found)) where
+    -- no two numbers
+    pub terms-malformed : (t : Text) (row : List ℕ) (r : Fields) → OneOf (1 ∷ 2 ∷ []) (tagOf the-type r) → fieldsMean t row r ≡ fieldsThenNumbers 2 (m .rest) → refused 13 ≡ readTerms s
+    unfolding termsBy
+    terms-malformed t row (Fields.Numbers next) k h = absurd (⊎-elim (λ z. omega arith) (λ z. omega arith) k)
+    terms-malformed t row Fields.Malformed k h = terms-read h hw
+    terms-malformed t row Fields.Missing k h = terms-read h hw
 
-  pub terms-draw : (how : Method) (S : Read ℕ) → value how ≡ method (m .found) → value S ≡ numberBy COMMA (m .rest) → refused 13 ≡ numberBy NEWLINE (e .rest) → refused 13 ≡ readTerms s
-  unfolding readTerms
-  terms-draw how S hh hS h = rw (← hm, ← he, ← hd, ← hh, number-of COMMA (m .rest) e S he hS, number-none NEWLINE (e .rest) d hd h)
-
-  pub terms-all : (how : Method) (S draw : Read ℕ) → value how ≡ method (m .found) → value S ≡ numberBy COMMA (m .rest) → value draw ≡ numberBy NEWLINE (e .rest)
-      → value (record { found = record { method = how; exercised = S .found; draw = draw .found }; rest = d .rest }) ≡ readTerms s
-  unfolding readTerms
-  terms-all how S draw hh hS h = rw (← hm, ← he, ← hd, ← hh, number-of COMMA (m .rest) e S he hS, number-of NEWLINE (e .rest) d draw hd h)
+    -- two numbers
+    pub terms-all : {x : Read (List ℕ)} → value (value x) ≡ fieldsThenNumbers 2 (m .rest) → value (record { found = termsOf how (x .found); rest = x .rest }) ≡ readTerms s
+    unfolding termsBy
+    terms-all h = terms-read h hw
 
 -- ---- lines 1 to 3
 
-pub head-long : (s : Text) → 32768 < length s → refused 11 ≡ readHead s
+pub head-long : (s : Text) → MOST_BYTES < length s → refused 11 ≡ readHead s
 unfolding readHead
-head-long s over = rw (lt-ltb 32768 (length s) over)
+head-long s over = rw (lt-ltb MOST_BYTES (length s) over)
 
-module _ (s : Text) (fits : length s ≤ 32768) where
-  pub head-names : refused 12 ≡ after termsNames s → refused 12 ≡ readHead s
+module _ (s : Text) (fits : length s ≤ MOST_BYTES) where
+  pub head-names : refused 12 ≡ readNames line1 s → refused 12 ≡ readHead s
   unfolding readHead
-  head-names h = rw (le-ltb 32768 (length s) fits, ← h)
+  head-names h = rw (le-ltb MOST_BYTES (length s) fits, ← h)
 
-  pub head-terms : (u : Text) (n : ℕ) → value u ≡ after termsNames s → refused n ≡ readTerms u → refused n ≡ readHead s
-  unfolding readHead
-  head-terms u n hu h = rw (le-ltb 32768 (length s) fits, ← hu, ← h)
+  module _ {names : Read Heading} (hn : value names ≡ readNames line1 s) where
+    pub head-terms : {n : ℕ} → refused n ≡ readTerms (names .rest) → refused n ≡ readHead s
+    unfolding readHead
+    head-terms h = rw (le-ltb MOST_BYTES (length s) fits, ← hn, ← h)
 
-  pub head-position-names : (u : Text) (t : Read Terms) → value u ≡ after termsNames s → value t ≡ readTerms u → refused 12 ≡ after positionNames (t .rest) → refused 12 ≡ readHead s
-  unfolding readHead
-  head-position-names u t hu ht h = rw (le-ltb 32768 (length s) fits, ← hu, ← ht, ← h)
+    module _ {t : Read Terms} (ht : value t ≡ readTerms (names .rest)) where
+      pub head-columns : refused 12 ≡ readNames line3 (t .rest) → refused 12 ≡ readHead s
+      unfolding readHead
+      head-columns h = rw (le-ltb MOST_BYTES (length s) fits, ← hn, ← ht, ← h)
 
-  pub head-all : (u : Text) (t : Read Terms) (v : Text) → value u ≡ after termsNames s → value t ≡ readTerms u → value v ≡ after positionNames (t .rest)
-      → value (record { found = t .found; rest = v }) ≡ readHead s
-  unfolding readHead
-  head-all u t v hu ht h = rw (le-ltb 32768 (length s) fits, ← hu, ← ht, ← h)
+      pub head-all : {columns : Read Heading} → value columns ≡ readNames line3 (t .rest) → value (record { found = t .found; rest = columns .rest }) ≡ readHead s
+      unfolding readHead
+      head-all h = rw (le-ltb MOST_BYTES (length s) fits, ← hn, ← ht, ← h)
 
--- ---- a position line
+-- ---- the lines to the end of the text
 
-pub position-first : (s : Text) → refused 13 ≡ numberBy COMMA s → refused 13 ≡ readPosition s
-unfolding readPosition
-position-first s h = rw (← h)
-
-pub position-second : (s : Text) (a : Read ℕ) → value a ≡ numberBy COMMA s → refused 13 ≡ numberBy NEWLINE (a .rest) → refused 13 ≡ readPosition s
-unfolding readPosition
-position-second s a ha h = rw (← ha, ← h)
-
-pub position-all : (s : Text) (a h : Read ℕ) → value a ≡ numberBy COMMA s → value h ≡ numberBy NEWLINE (a .rest)
-    → value (record { found = record { account = a .found; short = h .found }; rest = h .rest }) ≡ readPosition s
-unfolding readPosition
-position-all s a h ha hh = rw (← ha, ← hh)
-
--- ---- the position lines
-
--- positions in front of those that are read
-unfoldable pub joined : List Position → Result (List Position) → Result (List Position)
-joined ps r = r >>= λ qs. value (ps ++ qs)
-
--- what the loop over the lines keeps: n of at most k positions stand first in the lists, and the text goes on at index at
-abbrev pub LinesTo : ℕ → Text → ℕ → List ℕ → List ℕ → ℕ → ℕ → Type 0
-LinesTo k s from accounts shorts at n =
-    readPositions k (drop from s) ≡ joined (positionsOf (take n accounts) (take n shorts)) (readPositions (k - n) (drop at s))
-
-pub lines-start : (k : ℕ) (s : Text) (from : ℕ) (accounts shorts : List ℕ) → LinesTo k s from accounts shorts from 0
-unfolding joined positionsOf
-lines-start k s from accounts shorts = rw sub-zero (go (readPositions k (drop from s)))
+-- a line's numbers, where its fields are known
+row-read : (k : ℕ) (s : Text) (r : Result (Result (Read (List ℕ)))) → r ≡ fieldsThenNumbers k s → (r >>= λ q. q) ≡ readRow k s
+unfolding readRow fieldsThenNumbers valued
+row-read k s r e = rw e (go (readFields k s))
   where
-    go : (r : Result (List Position)) → r ≡ (r >>= λ qs. value qs)
+    go : (fs : Result (Read (List Text))) → (valued fs >>= λ q. q) ≡ (fs >>= λ fs. before (fs .rest) (numbers (fs .found)))
     go (refused n) = refl
-    go (value qs) = refl
+    go (value fs) = refl
 
-pub positions-end : (k : ℕ) → readPositions k [] ≡ value []
-unfolding readPositions
-positions-end zero = refl
-positions-end (suc k) = refl
+-- rows in front of those that are read
+unfoldable pub above : List (List ℕ) → Result (List (List ℕ)) → Result (List (List ℕ))
+above rows r = r >>= λ rs. value (rows ++ rs)
 
-pub positions-over : (k : ℕ) (b : ℕ) (s : Text) → k ≡ 0 → readPositions k (b ∷ s) ≡ refused 15
-unfolding readPositions
-positions-over k b s e = rw e
+above-nil : (r : Result (List (List ℕ))) → r ≡ above [] r
+unfolding above
+above-nil (refused n) = refl
+above-nil (value rs) = refl
 
-pub positions-more : (k j : ℕ) (b : ℕ) (s : Text) → k ≡ suc j → readPositions k (b ∷ s) ≡ (readPosition (b ∷ s) >>= λ p. joined (p .found ∷ []) (readPositions j (p .rest)))
-unfolding readPositions joined
-positions-more k j b s e = rw e
+above-above : (ps qs : List (List ℕ)) (r : Result (List (List ℕ))) → above ps (above qs r) ≡ above (ps ++ qs) r
+unfolding above
+above-above ps qs (refused n) = refl
+above-above ps qs (value rs) = rw append-assoc
 
-joined-joined : (ps qs : List Position) (r : Result (List Position)) → joined ps (joined qs r) ≡ joined (ps ++ qs) r
-unfolding joined
-joined-joined ps qs (refused n) = refl
-joined-joined ps qs (value rs) = rw append-assoc
+-- what the loop over the lines keeps: n rows of at most `most` are read, and the text goes on at index at
+pub record RowsTo (most k : ℕ) (s : Text) (from : ℕ) (rows : List (List ℕ)) (at n : ℕ) : Type 0 where
+  pub reads : readRows most k (drop from s) ≡ above rows (readRows (most - n) k (drop at s))
 
-module _ (k : ℕ) (s : Text) (from : ℕ) (accounts shorts : List ℕ) (at n : ℕ) (so : LinesTo k s from accounts shorts at n) where
+pub rows-start : {most k : ℕ} {s : Text} {from : ℕ} → RowsTo most k s from [] from 0
+rows-start {most} {k} {s} {from} = record { reads = rw sub-zero (above-nil (readRows most k (drop from s))) }
+
+module _ {most k : ℕ} {s : Text} {from : ℕ} {rows : List (List ℕ)} {at n : ℕ} (so : RowsTo most k s from rows at n) where
   -- the text ends
-  pub lines-end : length s ≤ at → value (positionsOf (take n accounts) (take n shorts)) ≡ readPositions k (drop from s)
-  unfolding joined
-  lines-end le = sym (so ∙ rw (drop-of-length-le s le, positions-end, append-nil))
+  pub rows-end : length s ≤ at → value rows ≡ readRows most k (drop from s)
+  unfolding above
+  rows-end le = sym (so .reads ∙ rw (drop-of-length-le s le, rows-none, append-nil))
 
   -- a line too many
-  pub lines-over : at < length s → k ≤ n → refused 15 ≡ readPositions k (drop from s)
-  unfolding joined
-  lines-over lt le =
-      let e : k - n ≡ 0 = omega arith in
-      sym (so ∙ rw (drop-more at s lt, positions-over (k - n) (getD s at 0) (drop (at + 1) s) e))
+  pub rows-over : at < length s → most ≤ n → refused 15 ≡ readRows most k (drop from s)
+  unfolding above readRows
+  rows-over lt le =
+      let e : most - n ≡ 0 = omega arith in
+      sym (so .reads ∙ rw (drop-more at s lt, e))
 
-  -- a malformed line
-  pub lines-malformed : at < length s → n < k → refused 13 ≡ readPosition (drop at s) → refused 13 ≡ readPositions k (drop from s)
-  unfolding joined
-  lines-malformed lt le h =
-      let e : k - n ≡ suc (k - (n + 1)) = omega arith in
-      let h′ : refused 13 ≡ readPosition (getD s at 0 ∷ drop (at + 1) s) = rw (drop-more at s lt) at h in
-      sym (so ∙ rw (drop-more at s lt, positions-more (k - n) (k - (n + 1)) (getD s at 0) (drop (at + 1) s) e, ← h′))
+  -- a further line
+  next-row : at < length s → n < most → readRows most k (drop from s) ≡ above rows (readRow k (drop at s) >>= λ r. above (r .found ∷ []) (readRows (most - (n + 1)) k (r .rest)))
+  unfolding above readRows
+  next-row lt le =
+      let e : most - n ≡ suc (most - (n + 1)) = omega arith in
+      so .reads ∙ rw (drop-more at s lt, e)
 
-  -- one more position
-  pub lines-more : (p : Position) (next : ℕ) → at < length s → n < k → n < length accounts → n < length shorts
-      → value (record { found = p; rest = drop next s }) ≡ readPosition (drop at s) → LinesTo k s from (set accounts n (p .account)) (set shorts n (p .short)) next (n + 1)
-  lines-more p next lt le la lh h =
-      let e : k - n ≡ suc (k - (n + 1)) = omega arith in
-      let h′ : value (record { found = p; rest = drop next s }) ≡ readPosition (getD s at 0 ∷ drop (at + 1) s) = rw (drop-more at s lt) at h in
-      let ps : List Position = positionsOf (take n accounts) (take n shorts) in
-      so
-      ∙ ap (λ (t : Text). joined ps (readPositions (k - n) t)) (drop-more at s lt)
-      ∙ ap (joined ps) (positions-more (k - n) (k - (n + 1)) (getD s at 0) (drop (at + 1) s) e ∙ rw (← h′))
-      ∙ joined-joined ps (p ∷ []) (readPositions (k - (n + 1)) (drop next s))
-      ∙ ap (λ (qs : List Position). joined qs (readPositions (k - (n + 1)) (drop next s))) (sym (positionsOf-set accounts shorts n (p .account) (p .short) la lh))
+  module _ (lt : at < length s) (le : n < most) where
+    -- it has not its numbers
+    pub rows-malformed : (t : Text) (row : List ℕ) (r : Fields) → OneOf (1 ∷ 2 ∷ []) (tagOf the-type r) → fieldsMean t row r ≡ fieldsThenNumbers k (drop at s) → refused 13 ≡ readRows most k (drop from s)
+    unfolding above
+    rows-malformed t row (Fields.Numbers next) o h = absurd (⊎-elim (λ z. omega arith) (λ z. omega arith) o)
+    rows-malformed t row Fields.Malformed o h = sym (next-row lt le ∙ rw (← row-read k (drop at s) (value (refused 13)) h))
+    rows-malformed t row Fields.Missing o h = sym (next-row lt le ∙ rw (← row-read k (drop at s) (refused 13) h))
+
+    -- one more row
+    pub rows-more : {row : List ℕ} {next : ℕ} → value (value (record { found = row; rest = drop next s })) ≡ fieldsThenNumbers k (drop at s) → RowsTo most k s from (rows ++ (row ∷ [])) next (n + 1)
+    rows-more {row} {next} h =
+        let h′ : value (record { found = row; rest = drop next s }) ≡ readRow k (drop at s) = row-read k (drop at s) (value (value (record { found = row; rest = drop next s }))) h in
+        record { reads = next-row lt le ∙ rw (← h′) (above-above rows (row ∷ []) (readRows (most - (n + 1)) k (drop next s))) }

@@ -8,9 +8,10 @@ use native.Mathlib.Nat.{pow-suc}
 use native.Mathlib.Decide.{decLt}
 use borrow.Author.Tests.{le-leb, leb-true, ne-eqb}
 use lib.Dec.{eqb, leb}
-use Rattle.series_text.specs.Results.{value}
+use Rattle.series.specs.Results.{value}
+use Rattle.series_text.specs.Fields.{Text, ends, fieldBy, writeNumber}
+use Rattle.series_text.specs.Parts.{numberBy}
 use Rattle.series_text.specs.Numbers.{LARGEST, digit, digits, spelled, amountFrom, amount, numeral, number, decimalIn, decimal}
-use Rattle.series_text.specs.Text.{Text, ends, fieldBy, numberBy, writeNumber}
 use Rattle.series_text.proofs.FieldLaws.{prefixed, prefixed-nil, prefixed-prefixed, field-byte, field-end, ends-digit, digits-append, amount-more, numbered, numberBy-numbered}
 use Rattle.series_text.proofs.DecimalLaws.{decimal-small, decimal-large}
 

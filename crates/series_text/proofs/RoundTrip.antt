@@ -1,190 +1,148 @@
 -- What writing wrote reads back as the same series: of the definitions, and of the two calls.
-use Prim.Native.Nat.{ℕ, zero, suc, _*_, _≤_, _<_}
+use Prim.Native.Nat.{ℕ, _+_, _*_, _≤_}
 use mathlib.Core.Path.{_≡_, refl, sym, ap, _∙_}
-use mathlib.Core.Bool.{true, false}
+use mathlib.Core.Bool.{true, false, not, _&&_}
 use mathlib.Core.List.{List, [], _∷_, _++_, append-assoc}
 use native.Mathlib.Omega.{arith}
-use native.Mathlib.Decide.{decLt, ℕ-discrete}
-use borrow.Author.Tests.{lt-ltb, le-ltb, eq-eqb, ne-eqb}
-use lib.ListN.{length, getD, take, drop, length-append}
-use lib.Seq.{drop-cons, take-at}
+use borrow.Author.Tests.{le-ltb, ltb-false, eq-eqb, eqb-true, not-false}
+use lib.Dec.{eqb, ltb}
+use lib.ListN.{length, take, drop, length-append}
+use lib.Seq.{take-at}
+use Rattle.series.specs.Ascii.{ascii}
+use Rattle.series.specs.Outputs.{onto}
+use Rattle.series.specs.Results.{value, after, refuse}
+use Rattle.series.specs.Series.{Series, exercised, draw}
 use Rattle.series.specs.declared.Method.{Method}
-use Rattle.series.specs.declared.Method.the-variants.{Wheel, ProRata, Lottery}
-use Rattle.series_text.specs.Ascii.{ascii}
-use Rattle.series_text.specs.Results.{Result, refused, value}
+use Rattle.series.specs.declared.Terms.{Terms}
+use Rattle.series.proofs.ResultLaws.{value-is, stepped, not-refused}
 use Rattle.series_text.specs.Numbers.{LARGEST}
-use Rattle.series_text.specs.Text.{Text, Terms, Position, Series, COMMA, NEWLINE, MOST, termsNames, positionNames, after, ends, fieldBy, letter, methodBy, method, readTerms, readPosition, readPositions, readHead, readText, writeNumber, writeTerms, writePosition, writePositions, writeText}
-use Rattle.series_text.specs.Calls.{readingOf, writingOf, readInto, handed, onto, accountsAfter, shortsAfter, positionsOf, writeInto, lengthOf, textAfter}
+use Rattle.series_text.specs.Fields.{Text, COMMA, ends, fieldBy}
+use Rattle.series_text.specs.Rows.{writeRow, writeRows, rowsOf}
+use Rattle.series_text.specs.Names.{namesLine, afterLine, headingOr, readNames}
+use Rattle.series_text.specs.Letters.{letter, methodBy, methodOf}
+use Rattle.series_text.specs.Text.{MOST_BYTES, MOST_LINES, readTerms, readHead, readText, writeTerms, writeHead, columns, writeText}
+use Rattle.series_text.specs.Calls.{readingOf, readInto, handed, evenly, lineCount, linesInto, writeInto, lengthOf}
+use Rattle.series_text.specs.declared.names.Heading.{Heading}
 use Rattle.series_text.specs.declared.Reading.{Reading}
-use Rattle.series_text.specs.declared.Writing.{Writing}
-use Rattle.series_text.proofs.CallLaws.{textOf}
 use Rattle.series_text.proofs.FieldLaws.{prefixed, field-byte, field-end}
-use Rattle.series_text.proofs.LineLaws.{joined, positions-end, positions-more}
-use Rattle.series_text.proofs.DecimalLaws.{digits-few}
-use Rattle.series_text.proofs.NumberLaws.{number-decimal, field-number, read-number}
-use Rattle.series_text.proofs.PositionLaws.{length-line, length-terms, accounts-of, shorts-of, length-positions}
+use Rattle.series_text.proofs.NumberLaws.{and-true-parts}
+use Rattle.series_text.proofs.LengthLaws.{head-room, rows-room}
+use Rattle.series_text.proofs.RowLaws.{Fits, fits-none, fits-more, fields-back, numbers-back, rows-back, rows-each, rows-fit}
+use Rattle.series_text.proofs.ColumnLaws.{length-rows, column-first, column-second}
 
--- every number of a position fits 32 bits
-abbrev pub Fits : Position → Type 0
-Fits p = (p .account ≤ LARGEST) × (p .short ≤ LARGEST)
-
--- every number of the positions does
-abbrev pub AllFit : List Position → Type 0
-AllFit [] = Unit {0}
-AllFit (p ∷ ps) = Fits p × AllFit ps
-
--- what can be written: numbers of 32 bits, and at most 1,024 positions
+-- what can be written: numbers of 32 bits, and at most 1,024 positions, an account and its shorts each
 pub record Writable (t : Series) : Type 0 where
-  pub exercised : t .terms .exercised ≤ LARGEST
-  pub draw : t .terms .draw ≤ LARGEST
-  pub positions : AllFit (t .positions)
-  pub few : length (t .positions) ≤ MOST
+  pub exercised : exercised t ≤ LARGEST
+  pub draw : draw t ≤ LARGEST
+  pub accounts : Fits (t .accounts)
+  pub shorts : Fits (t .shorts)
+  pub same : length (t .shorts) ≡ length (t .accounts)
+  pub few : length (t .accounts) ≤ MOST_LINES
 
 -- ---- line by line
 
-after-line : (p s : Text) → after p (p ++ s) ≡ value s
-unfolding after
-after-line [] s = refl
-after-line (a ∷ p) s = rw (eq-eqb a a refl) (after-line p s)
+after-back : (p s : Text) → afterLine p (p ++ s) ≡ value s
+unfolding afterLine
+after-back [] s = refl
+after-back (a ∷ p) s = rw (eq-eqb a a refl) (after-back p s)
 
-comma-ends : ends COMMA ≡ true
-unfolding ends
-comma-ends = refl
-
-newline-ends : ends NEWLINE ≡ true
-unfolding ends
-newline-ends = refl
+names-back : (h : Heading) (known : List Heading) (s : Text) → readNames (h ∷ known) (namesLine h ++ s) ≡ value (record { found = h; rest = s })
+unfolding readNames headingOr
+names-back h known s = rw (after-back (namesLine h) s)
 
 letter-field : (m : Method) (s : Text) → fieldBy COMMA (letter m ∷ COMMA ∷ s) ≡ value (record { found = letter m ∷ []; rest = s })
 unfolding prefixed letter ends
-letter-field m s = field-byte COMMA (letter m) (COMMA ∷ s) (no-end m) ∙ ap (prefixed (letter m ∷ [])) (field-end COMMA s comma-ends)
+letter-field m s = field-byte COMMA (letter m) (COMMA ∷ s) (no-end m) ∙ ap (prefixed (letter m ∷ [])) (field-end COMMA s refl)
   where
     no-end : (m : Method) → ends (letter m) ≡ false
-    no-end Wheel = refl
-    no-end ProRata = refl
-    no-end Lottery = refl
+    no-end Method.Wheel = refl
+    no-end Method.ProRata = refl
+    no-end Method.Lottery = refl
 
-letter-method : (m : Method) → method (letter m ∷ []) ≡ value m
-unfolding method methodBy letter
-letter-method Wheel = refl
-letter-method ProRata = refl
-letter-method Lottery = refl
+letter-method : (m : Method) → methodOf (letter m ∷ []) ≡ value m
+unfolding methodOf methodBy letter
+letter-method Method.Wheel = refl
+letter-method Method.ProRata = refl
+letter-method Method.Lottery = refl
 
-terms-back : (t : Terms) (s : Text) → t .exercised ≤ LARGEST → t .draw ≤ LARGEST → readTerms (writeTerms t ++ s) ≡ value (record { found = t; rest = s })
+terms-back : (t : Terms) (s : Text) → t .exercised .0 ≤ LARGEST → t .draw ≤ LARGEST → readTerms (writeTerms t ++ s) ≡ value (record { found = t; rest = s })
 unfolding readTerms writeTerms
 terms-back t s fe fd =
-    let S : Text = writeNumber (t .exercised) COMMA in
-    let draw : Text = writeNumber (t .draw) NEWLINE in
-    rw (letter-field (t .method) (S ++ draw ++ s), append-assoc S draw s, field-number COMMA (t .exercised) (draw ++ s) comma-ends, field-number NEWLINE (t .draw) s newline-ends, letter-method (t .method), number-decimal (t .exercised) fe, number-decimal (t .draw) fd)
+    let ns : List ℕ = t .exercised .0 ∷ t .draw ∷ [] in
+    let fits : Fits ns = fits-more (t .exercised .0) (t .draw ∷ []) fe (fits-more (t .draw) [] fd fits-none) in
+    rw (letter-field (t .method) (writeRow ns ++ s), fields-back ns s, letter-method (t .method), numbers-back ns fits)
 
-position-back : (p : Position) (s : Text) → Fits p → readPosition (writePosition p ++ s) ≡ value (record { found = p; rest = s })
-unfolding readPosition writePosition
-position-back p s fits =
-    let a : Text = writeNumber (p .account) COMMA in
-    let h : Text = writeNumber (p .short) NEWLINE in
-    rw (append-assoc a h s, read-number COMMA (p .account) (h ++ s) comma-ends (fits .0), read-number NEWLINE (p .short) s newline-ends (fits .1))
+head-back : (t : Terms) (s : Text) → t .exercised .0 ≤ LARGEST → t .draw ≤ LARGEST → length (writeHead t ++ s) ≤ MOST_BYTES → readHead (writeHead t ++ s) ≡ value (record { found = t; rest = s })
+unfolding readHead writeHead
+head-back t s fe fd few =
+    let first : Text = namesLine Heading.Terms in
+    let third : Text = namesLine Heading.Positions in
+    rw (le-ltb MOST_BYTES (length (writeHead t ++ s)) few, append-assoc first (writeTerms t ++ third) s, append-assoc (writeTerms t) third s, names-back Heading.Terms [] (writeTerms t ++ (third ++ s)), terms-back t (third ++ s) fe fd, names-back Heading.Positions [] s)
 
--- a line is no empty text
-line-begins : (p : Position) (s : Text) → 0 < length (writePosition p ++ s)
-line-begins p s = omega (arith, length-append (writePosition p) s, length-line p)
+-- ---- the length of a text
 
-positions-back : (k : ℕ) (ps : List Position) → length ps ≤ k → AllFit ps → readPositions k (writePositions ps) ≡ value ps
-unfolding writePositions joined
-positions-back k [] le fits = positions-end k
-positions-back zero (p ∷ ps) le fits = absurd (omega arith)
-positions-back (suc k) (p ∷ ps) le fits =
-    let s : Text = writePosition p ++ writePositions ps in
-    let cut : s ≡ getD s 0 0 ∷ drop 1 s = drop-cons s 0 0 (line-begins p (writePositions ps)) in
-    ap (readPositions (suc k)) cut
-    ∙ positions-more (suc k) k (getD s 0 0) (drop 1 s) refl
-    ∙ rw (← cut, position-back p (writePositions ps) (fits .0), positions-back k ps (omega arith) (fits .1))
-
--- ---- the length of a text that can be written
-
-pub lines-few : (ps : List Position) → length (writePositions ps) ≤ 22 * length ps
-unfolding writePositions
-lines-few [] = omega arith
-lines-few (p ∷ ps) = omega (arith, length-append (writePosition p) (writePositions ps), length-line p, digits-few (p .account), digits-few (p .short), lines-few ps)
-
-text-fits : (t : Series) → length (t .positions) ≤ MOST → length (writeText t) ≤ 32768
-unfolding writeText termsNames positionNames ascii
-text-fits t few =
-    let lines : Text = writePositions (t .positions) in
-    let line2 : Text = writeTerms (t .terms) in
-    omega (arith, length-append line2 (positionNames ++ lines), length-terms (t .terms), digits-few (t .terms .exercised), digits-few (t .terms .draw), lines-few (t .positions))
+-- lines 1 to 3 have at most 60 bytes and a position line at most 22, so that a text of 1,024 positions has at most 22,588
+pub text-few : (t : Series) → length (writeText t) ≤ 60 + 22 * length (t .accounts)
+unfolding writeText lineCount
+text-few t =
+    let rows : List (List ℕ) = rowsOf (columns t) in
+    omega (arith, length-append (writeHead (t .terms)) (writeRows rows), head-room (t .terms), rows-room (columns t))
 
 -- ---- the law
 
 -- for every method, S, draw and list of at most 1,024 positions of numbers of 32 bits, the text that is written reads as the same series
 pub round-trip : (t : Series) → Writable t → readText (writeText t) ≡ value t
-unfolding readText readHead writeText
+unfolding readText writeText
 round-trip t w =
-    let lines : Text = writePositions (t .positions) in
-    rw (le-ltb 32768 (length (writeText t)) (text-fits t (w .few)), after-line termsNames (writeTerms (t .terms) ++ (positionNames ++ lines)), terms-back (t .terms) (positionNames ++ lines) (w .exercised) (w .draw), after-line positionNames lines, positions-back MOST (t .positions) (w .few) (w .positions))
+    let rows : List (List ℕ) = rowsOf (columns t) in
+    let few : length (writeText t) ≤ MOST_BYTES = omega (arith, text-few t, w .few) in
+    rw (head-back (t .terms) (writeRows rows) (w .exercised) (w .draw) few, rows-back MOST_LINES 2 rows (omega arith) (omega (arith, length-rows (t .accounts) (t .shorts ∷ []), w .few)) (rows-fit (columns t) (w .accounts, (w .shorts, tt))), column-first (t .accounts) (t .shorts), column-second (t .accounts) (t .shorts) (w .same))
 
 -- ---- the two calls
 
-never : {A : Type 0} (n : ℕ) (a : A) → refused n ≡ value a → ⊥
-never n a e = let z : _≡_ {A = ℕ} 0 1 = cc in omega arith
-
 -- what writing wrote, where it answers with a length
-record Wrote (t : Terms) (accounts shorts : List ℕ) (room n : ℕ) : Type 0 where
-  same : length accounts ≡ length shorts
-  few : length accounts ≤ MOST
-  is : writeInto t accounts shorts room ≡ value (textOf t accounts shorts)
-  long : length (textOf t accounts shorts) ≡ n
+record Wrote (t : Series) (room n : ℕ) : Type 0 where
+  same : length (t .shorts) ≡ length (t .accounts)
+  few : length (t .accounts) ≤ MOST_LINES
+  is : writeInto t room ≡ value (writeText t)
+  long : length (writeText t) ≡ n
 
-wrote : (t : Terms) (accounts shorts : List ℕ) (room n : ℕ) → lengthOf (writeInto t accounts shorts room) ≡ value n → Wrote t accounts shorts room n
-unfolding writeInto lengthOf textOf
-wrote t accounts shorts room n e = unequal (ℕ-discrete (length accounts) (length shorts))
-  where
-    short : length accounts ≡ length shorts → length accounts ≤ MOST → Dec (room < length (textOf t accounts shorts)) → Wrote t accounts shorts room n
-    short same few (yes over) = absurd (never 4 n (sym (rw (eq-eqb (length accounts) (length shorts) same, le-ltb MOST (length accounts) few, lt-ltb room (length (textOf t accounts shorts)) over)) ∙ e))
-    short same few (no room-enough) =
-        let le : length (textOf t accounts shorts) ≤ room = omega arith in
-        let is : writeInto t accounts shorts room ≡ value (textOf t accounts shorts)
-        = rw (eq-eqb (length accounts) (length shorts) same, le-ltb MOST (length accounts) few, le-ltb room (length (textOf t accounts shorts)) le) in
-        let z : value (length (textOf t accounts shorts)) ≡ value n = sym (ap lengthOf is) ∙ e in
-        record { same = same; few = few; is = is; long = cc }
-
-    many : length accounts ≡ length shorts → Dec (MOST < length accounts) → Wrote t accounts shorts room n
-    many same (yes over) = absurd (never 15 n (sym (rw (eq-eqb (length accounts) (length shorts) same, lt-ltb MOST (length accounts) over)) ∙ e))
-    many same (no few) = short same (omega arith) (decLt room (length (textOf t accounts shorts)))
-
-    unequal : Dec (length accounts ≡ length shorts) → Wrote t accounts shorts room n
-    unequal (yes same) = many same (decLt MOST (length accounts))
-    unequal (no ne) = absurd (never 1 n (sym (rw (ne-eqb (length accounts) (length shorts) ne)) ∙ e))
-
--- every number of the list fits 32 bits
-abbrev pub FitList : List ℕ → Type 0
-FitList l = (i : ℕ) → getD l i 0 ≤ LARGEST
-
-all-fit : (accounts shorts : List ℕ) → FitList accounts → FitList shorts → AllFit (positionsOf accounts shorts)
-unfolding positionsOf
-all-fit [] hs fa fh = tt
-all-fit (a ∷ rest) [] fa fh = tt
-all-fit (a ∷ rest) (h ∷ hs) fa fh = ((fa 0, fh 0), all-fit rest hs (λ i. fa (suc i)) (λ i. fh (suc i)))
+wrote : (t : Series) (room n : ℕ) → lengthOf (writeInto t room) ≡ value n → Wrote t room n
+unfolding writeInto linesInto evenly lineCount lengthOf writeText
+wrote t room n e =
+    let N : ℕ = length (t .accounts) in
+    let s : Text = writeText t in
+    let o = stepped (writeInto t room) (λ s. value (length s)) n e in
+    let one = stepped (refuse (not (evenly N (columns t))) 1 s) _ (o .from) (o .step) in
+    let even = not-refused (not (evenly N (columns t))) 1 s (one .from) (one .step) in
+    let two = stepped (refuse (ltb MOST_LINES N) 15 (one .from)) _ (o .from) (one .on) in
+    let few = not-refused (ltb MOST_LINES N) 15 (one .from) (two .from) (two .step) in
+    let room-enough = not-refused (ltb room (length (two .from))) 4 (two .from) (o .from) (two .on) in
+    let text : s ≡ o .from = even .1 ∙ few .1 ∙ room-enough .1 in
+    let both = and-true-parts (eqb N N) (eqb (length (t .shorts)) N && true) (not-false (evenly N (columns t)) (even .0)) in
+    record {
+      same = eqb-true (length (t .shorts)) N (and-true-parts (eqb (length (t .shorts)) N) true (both .1) .0);
+      few = ltb-false MOST_LINES N (few .0);
+      is = o .step ∙ ap value (sym text);
+      long = ap length text ∙ value-is (o .on);
+    }
 
 -- where writing answered Written n and left the output new, reading the first n bytes of it into two lists that are long enough
 -- answers with the same series, and the lists hold its positions and then what they held
 pub calls-round-trip :
-    (t : Terms) (accounts shorts : List ℕ) → t .exercised ≤ LARGEST → t .draw ≤ LARGEST → FitList accounts → FitList shorts
-    → (old new : List ℕ) (n : ℕ) → writingOf (Writing.Written n) ≡ lengthOf (writeInto t accounts shorts (length old)) → new ≡ textAfter (writeInto t accounts shorts (length old)) old
-    → (A H A′ H′ : List ℕ) (r : Reading) → length accounts ≤ length A → length shorts ≤ length H
-    → readingOf r ≡ handed (readInto (take n new) (length A) (length H)) → A′ ≡ accountsAfter (readInto (take n new) (length A) (length H)) A → H′ ≡ shortsAfter (readInto (take n new) (length A) (length H)) H
-    → (readingOf r ≡ value (record { terms = t; positions = length accounts })) × (A′ ≡ onto accounts A) × (H′ ≡ onto shorts H)
-unfolding textAfter onto readInto handed accountsAfter shortsAfter textOf
-calls-round-trip t accounts shorts fe fd fa fh old new n answered left A H A′ H′ r roomA roomH reads ra rh =
-    let w = wrote t accounts shorts (length old) n (sym answered) in
-    let s : Text = textOf t accounts shorts in
-    let ps : List Position = positionsOf accounts shorts in
-    let series : Series = record { terms = t; positions = ps } in
-    let count : length ps ≡ length accounts = length-positions accounts shorts (w .same) in
-    let text : take n new ≡ s = ap (take n) (left ∙ ap (λ (x : Result Text). textAfter x old) (w .is)) ∙ take-at s (drop (length s) old) n (w .long) in
-    let back : readText (take n new) ≡ value series = ap readText text ∙ text-back t accounts shorts (record { exercised = fe; draw = fd; positions = all-fit accounts shorts fa fh; few = omega (arith, w .few) }) in
-    let into : readInto (take n new) (length A) (length H) ≡ value series
-    = rw (back, count, le-ltb (length A) (length accounts) roomA, le-ltb (length H) (length accounts) (omega (arith, w .same))) in
-    (reads ∙ rw (into, count), ra ∙ rw (into, accounts-of accounts shorts (w .same)), rh ∙ rw (into, shorts-of accounts shorts (w .same)))
-  where
-    text-back : (t : Terms) (accounts shorts : List ℕ) → Writable (record { terms = t; positions = positionsOf accounts shorts }) → readText (textOf t accounts shorts) ≡ value (record { terms = t; positions = positionsOf accounts shorts })
-    text-back t accounts shorts w = round-trip (record { terms = t; positions = positionsOf accounts shorts }) w
+    (t : Series) → exercised t ≤ LARGEST → draw t ≤ LARGEST → Fits (t .accounts) → Fits (t .shorts)
+    → (old new : List ℕ) (n : ℕ) → value n ≡ lengthOf (writeInto t (length old)) → new ≡ after (writeInto t (length old)) (λ s. onto s old) old
+    → (A H A′ H′ : List ℕ) (r : Reading) → length (t .accounts) ≤ length A → length (t .shorts) ≤ length H
+    → readingOf r ≡ handed (readInto (take n new) (length A) (length H))
+    → A′ ≡ after (readInto (take n new) (length A) (length H)) (λ s. onto (s .accounts) A) A
+    → H′ ≡ after (readInto (take n new) (length A) (length H)) (λ s. onto (s .shorts) H) H
+    → (readingOf r ≡ value (record { terms = t .terms; positions = length (t .accounts) })) × (A′ ≡ onto (t .accounts) A) × (H′ ≡ onto (t .shorts) H)
+unfolding onto readInto handed
+calls-round-trip t fe fd fa fh old new n answered left A H A′ H′ r roomA roomH reads ra rh =
+    let w : Wrote t (length old) n = wrote t (length old) n (sym answered) in
+    let s : Text = writeText t in
+    let text : take n new ≡ s = ap (take n) (left ∙ rw (w .is)) ∙ take-at s (drop (length s) old) n (w .long) in
+    let back : readText (take n new) ≡ value t = ap readText text ∙ round-trip t (record { exercised = fe; draw = fd; accounts = fa; shorts = fh; same = w .same; few = w .few }) in
+    let into : readInto (take n new) (length A) (length H) ≡ value t
+    = rw (back, le-ltb (length A) (length (t .accounts)) roomA, le-ltb (length H) (length (t .accounts)) (omega (arith, w .same))) in
+    (reads ∙ rw into, ra ∙ rw into, rh ∙ rw into)

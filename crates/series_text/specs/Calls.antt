@@ -1,14 +1,17 @@
--- The two calls: what each hands back, and what its outputs then hold.
+-- The calls: what each hands back, and what its outputs then hold.
 use Prim.Native.Nat.{ℕ}
-use mathlib.Core.Bool.{not, _||_}
-use mathlib.Core.List.{List, [], _∷_, _++_, map}
+use mathlib.Core.Bool.{Bool, true, not, _&&_, _||_}
+use mathlib.Core.List.{List, [], _∷_, _++_}
 use lib.Dec.{eqb, ltb}
-use lib.ListN.{length, drop}
+use lib.ListN.{length}
 use Rattle.series.specs.Answers.{numberOf}
-use Rattle.series_text.specs.Results.{Result, refused, value, _>>=_, refuse}
-use Rattle.series_text.specs.Text.{Text, Terms, Position, Series, MOST, readText, writeText}
+use Rattle.series.specs.Results.{Result, refused, value, _>>=_, refuse}
+use Rattle.series.specs.Series.{Series}
+use Rattle.series.specs.declared.Terms.{Terms}
+use Rattle.series_text.specs.Fields.{Text}
+use Rattle.series_text.specs.Rows.{writeRows, rowsOf}
+use Rattle.series_text.specs.Text.{MOST_LINES, readText, writeHead, columns}
 use Rattle.series_text.specs.declared.Reading.{Reading}
-use Rattle.series_text.specs.declared.Writing.{Writing}
 
 -- what reading hands back: the values of line 2 and the number of positions
 pub record Handed : Type 0 where
@@ -17,61 +20,52 @@ pub record Handed : Type 0 where
 
 -- what each answer of reading hands back
 abbrev pub readingOf : Reading → Result Handed
-readingOf (Reading.Series m S draw n) = value (record { terms = record { method = m; exercised = S .0; draw = draw }; positions = n })
+readingOf (Reading.Series t n) = value (record { terms = t; positions = n })
 readingOf (Reading.Refused r) = refused (numberOf r)
-
--- what each answer of writing hands back: the length of the text
-abbrev pub writingOf : Writing → Result ℕ
-writingOf (Writing.Written n) = value n
-writingOf (Writing.Refused r) = refused (numberOf r)
 
 -- reading a text into lists of these lengths: last of all 4, where one is shorter than the positions
 unfoldable pub readInto : Text → ℕ → ℕ → Result Series
 readInto s accounts shorts = do
   t ← readText s
-  refuse (ltb accounts (length (t .positions)) || ltb shorts (length (t .positions))) 4 t
+  refuse (ltb accounts (length (t .accounts)) || ltb shorts (length (t .accounts))) 4 t
 
 -- what reading hands back of a series
 unfoldable pub handed : Result Series → Result Handed
 handed r = do
   t ← r
-  value (record { terms = t .terms; positions = length (t .positions) })
+  value (record { terms = t .terms; positions = length (t .accounts) })
 
--- a lent list after the values vs are written to it: what stands past them is kept
-unfoldable pub onto : List ℕ → List ℕ → List ℕ
-onto vs old = vs ++ drop (length vs) old
+-- the columns have n numbers each
+unfoldable pub evenly : ℕ → List (List ℕ) → Bool
+evenly n [] = true
+evenly n (c ∷ cs) = eqb (length c) n && evenly n cs
 
--- the list of accounts after reading: the accounts of the series, and after a refusal as it was
-unfoldable pub accountsAfter : Result Series → List ℕ → List ℕ
-accountsAfter (refused n) old = old
-accountsAfter (value t) old = onto (map (λ p. p .account) (t .positions)) old
+-- how many numbers the first column has
+unfoldable pub lineCount : List (List ℕ) → ℕ
+lineCount [] = 0
+lineCount (c ∷ cs) = length c
 
--- the list of shorts after reading
-unfoldable pub shortsAfter : Result Series → List ℕ → List ℕ
-shortsAfter (refused n) old = old
-shortsAfter (value t) old = onto (map (λ p. p .short) (t .positions)) old
-
--- the positions of two lists of one length
-unfoldable pub positionsOf : List ℕ → List ℕ → List Position
-positionsOf [] hs = []
-positionsOf (a ∷ rest) [] = []
-positionsOf (a ∷ rest) (h ∷ hs) = record { account = a; short = h } ∷ positionsOf rest hs
-
--- writing a series to an output of length room: 1, then 15, then 4
-unfoldable pub writeInto : Terms → List ℕ → List ℕ → ℕ → Result Text
-writeInto t accounts shorts room = do
-  ps ← refuse (not (eqb (length accounts) (length shorts))) 1 (positionsOf accounts shorts)
-  ps ← refuse (ltb MOST (length accounts)) 15 ps
-  let s : Text = writeText (record { terms = t; positions = ps })
+-- writing a head and a line for each row of the columns to an output of length room: 1 where the columns differ in length, then 15, then 4
+unfoldable pub linesInto : Text → List (List ℕ) → ℕ → Result Text
+linesInto head cs room = do
+  s ← refuse (not (evenly (lineCount cs) cs)) 1 (head ++ writeRows (rowsOf cs))
+  s ← refuse (ltb MOST_LINES (lineCount cs)) 15 s
   refuse (ltb room (length s)) 4 s
+
+-- writing a series
+unfoldable pub writeInto : Series → ℕ → Result Text
+writeInto t room = linesInto (writeHead (t .terms)) (columns t) room
+
+-- writing a table: a names line as given, then a line for each account and its count
+unfoldable pub tableInto : Text → List ℕ → List ℕ → ℕ → Result Text
+tableInto names accounts counts room = linesInto names (accounts ∷ counts ∷ []) room
+
+-- writing a note: a line as given, then a line with the number
+unfoldable pub noteInto : Text → ℕ → ℕ → Result Text
+noteInto names n room = linesInto names ((n ∷ []) ∷ []) room
 
 -- what writing hands back: the length of the text
 unfoldable pub lengthOf : Result Text → Result ℕ
 lengthOf r = do
   s ← r
   value (length s)
-
--- the output after writing: the text, and after a refusal as it was
-unfoldable pub textAfter : Result Text → Text → Text
-textAfter (refused n) old = old
-textAfter (value s) old = onto s old

@@ -1,8 +1,9 @@
--- The text of a series as definitions on lists of bytes: an answer, a number, the lines, the two calls.
-pub mod Ascii
-pub mod Results
+-- The text of a series as definitions on lists of bytes: a number, a field, a row of numbers, the names lines, the letters of the methods, the text, the calls.
 pub mod Numbers
+pub mod Fields
+pub mod Rows
+pub mod Names
+pub mod Letters
 pub mod Text
 pub mod Calls
-pub mod Tables
 pub mod Parts

@@ -3,7 +3,7 @@ use Prim.Native.Nat.{ℕ, zero, suc, _+_, _-_, _*_, _/_, _%_}
 use mathlib.Core.Bool.{Bool, true, false, not, _&&_, cond}
 use mathlib.Core.List.{List, [], _∷_, _++_}
 use lib.Dec.{eqb, ltb, leb}
-use Rattle.series_text.specs.Results.{Result, refuse}
+use Rattle.series.specs.Results.{Result, refuse}
 
 -- the largest number
 abbrev pub LARGEST : ℕ

@@ -1,21 +1,34 @@
--- What the answers of the functions under the two calls mean.
+-- What the answers of the functions under the calls mean.
 use Prim.Native.Nat.{ℕ, _+_, _≤_, _<_}
 use mathlib.Core.Path.{_≡_}
-use mathlib.Core.List.{List, _++_}
+use mathlib.Core.Bool.{Bool, true, false}
+use mathlib.Core.List.{List, [], _∷_, _++_}
 use lib.ListN.{length, take, drop}
 use lib.Seq.{slice}
-use Rattle.series_text.specs.Results.{Result, refused, value}
+use Rattle.series.specs.Results.{Result, refused, value, _>>=_}
 use Rattle.series.specs.Answers.{numberOf}
 use Rattle.series.specs.declared.Method.{Method}
-use Rattle.series_text.specs.Text.{Text, Read, Terms, Position, MOST}
-use Rattle.series_text.specs.Calls.{positionsOf}
+use Rattle.series.specs.declared.Terms.{Terms}
+use Rattle.series_text.specs.Numbers.{number}
+use Rattle.series_text.specs.Fields.{Text, Read, fieldBy, readFields}
+use Rattle.series_text.specs.Rows.{numbers, rowsOf}
+use Rattle.series_text.specs.Text.{MOST_LINES}
 use Rattle.series_text.specs.declared.number.Field.{Field}
 use Rattle.series_text.specs.declared.field.Line.{Line}
 use Rattle.series_text.specs.declared.field.Found.{Found}
-use Rattle.series_text.specs.declared.Named.{Named}
+use Rattle.series_text.specs.declared.row.Fields.{Fields}
+use Rattle.series_text.specs.declared.names.Heading.{Heading}
+use Rattle.series_text.specs.declared.names.Names.{Names}
+use Rattle.series_text.specs.declared.letters.Named.{Named}
 use Rattle.series_text.specs.declared.lines.TermsLine.{TermsLine}
-use Rattle.series_text.specs.declared.lines.Row.{Row}
-use Rattle.series_text.specs.declared.lines.Rows.{Rows}
+use Rattle.series_text.specs.declared.lines.Positions.{Positions}
+
+-- the first field as a number, where the byte c ends it, else 13
+unfoldable pub numberBy : ℕ → Text → Result (Read ℕ)
+numberBy c s = do
+  f ← fieldBy c s
+  n ← number (f .found)
+  value (record { found = n; rest = f .rest })
 
 -- a number, with the text s from an index on
 abbrev pub fieldMeans : Text → Field → Result (Read ℕ)
@@ -37,6 +50,28 @@ abbrev pub foundWithin : ℕ → ℕ → Found → Type 0
 foundWithin at n (Found.At e) = (at ≤ e) × (e < n)
 foundWithin at n Found.Missing = Unit {0}
 
+-- a line of k fields, and of these whether they are numbers
+unfoldable pub fieldsThenNumbers : ℕ → Text → Result (Result (Read (List ℕ)))
+fieldsThenNumbers k s = do
+  fs ← readFields k s
+  value (numbers (fs .found) >>= (λ ns. value (record { found = ns; rest = fs .rest })))
+
+-- the numbers of a line, with the text s from an index on; fields that are no numbers; or no such fields
+abbrev pub fieldsMean : Text → List ℕ → Fields → Result (Result (Read (List ℕ)))
+fieldsMean s row (Fields.Numbers next) = value (value (record { found = row; rest = drop next s }))
+fieldsMean s row Fields.Malformed = value (refused 13)
+fieldsMean s row Fields.Missing = refused 13
+
+-- the fields are there
+abbrev pub foundFields : {A : Type 0} → Result A → Bool
+foundFields (value a) = true
+foundFields (refused n) = false
+
+-- a heading, with the text s from an index on
+abbrev pub namesMean : Text → Names → Result (Read Heading)
+namesMean s (Names.Line h next) = value (record { found = h; rest = drop next s })
+namesMean s Names.Unknown = refused 12
+
 -- a method
 abbrev pub namedMeans : Named → Result Method
 namedMeans (Named.Method m) = value m
@@ -44,29 +79,15 @@ namedMeans Named.Unknown = refused 14
 
 -- the values of line 2, with the text s from an index on
 abbrev pub termsMeans : Text → TermsLine → Result (Read Terms)
-termsMeans s (TermsLine.Terms m S draw next) = value (record { found = record { method = m; exercised = S .0; draw = draw }; rest = drop next s })
+termsMeans s (TermsLine.Terms t next) = value (record { found = t; rest = drop next s })
 termsMeans s (TermsLine.Refused r) = refused (numberOf r)
 
--- a position, with the text s from an index on
-abbrev pub rowMeans : Text → Row → Result (Read Position)
-rowMeans s (Row.Position a h next) = value (record { found = record { account = a; short = h }; rest = drop next s })
-rowMeans s Row.Malformed = refused 13
-
--- the positions that stand first in two lists
-abbrev pub rowsMeans : List ℕ → List ℕ → Rows → Result (List Position)
-rowsMeans accounts shorts (Rows.Positions n) = value (positionsOf (take n accounts) (take n shorts))
-rowsMeans accounts shorts (Rows.Refused r) = refused (numberOf r)
+-- the rows that stand first in two lists
+abbrev pub positionsMean : List ℕ → List ℕ → Positions → Result (List (List ℕ))
+positionsMean accounts shorts (Positions.Read n) = value (rowsOf (take n accounts ∷ take n shorts ∷ []))
+positionsMean accounts shorts (Positions.Refused r) = refused (numberOf r)
 
 -- they are at most 1,024
-abbrev pub rowsWithin : Rows → Type 0
-rowsWithin (Rows.Positions n) = n ≤ MOST
-rowsWithin (Rows.Refused r) = Unit {0}
-
--- the list old with vs in the place of what stood from index at on
-unfoldable pub placed : List ℕ → ℕ → List ℕ → List ℕ
-placed vs at old = take at old ++ vs ++ drop (at + length vs) old
-
--- the bytes vs are put at index at, and the next index is handed back
-pub record Put (vs old : List ℕ) (at : ℕ) (new : List ℕ) (next : ℕ) : Type 0 where
-  pub text : new ≡ placed vs at old
-  pub after : next ≡ at + length vs
+abbrev pub positionsWithin : Positions → Type 0
+positionsWithin (Positions.Read n) = n ≤ MOST_LINES
+positionsWithin (Positions.Refused r) = Unit {0}

@@ -1,7 +1,8 @@
 // Fields and fixed lines of a text.
 ghost use mathlib.Core.Path.{_≡_};
 ghost use lib.ListN.{length, drop};
-ghost use Rattle.series_text.specs.Text.{after, ends, fieldBy};
+ghost use Rattle.series_text.specs.Fields.{ends, fieldBy};
+ghost use Rattle.series_text.specs.Names.{afterLine};
 ghost use Rattle.series_text.specs.Parts.{lineMeans, foundMeans, foundWithin};
 
 // The index after a line, where the text has it.
@@ -18,7 +19,7 @@ pub enum Found {
 
 // Compares the text at an index with a fixed line.
 pub fn skip_line(text: &[u8], at: usize, line: &[u8]) -> Line
-    ensures { λ r. ⌜ lineMeans (now (text .entry)) r ≡ after (now (line .entry)) (drop at (now (text .entry))) ⌝ }
+    ensures { λ r. ⌜ lineMeans (now (text .entry)) r ≡ afterLine (now (line .entry)) (drop at (now (text .entry))) ⌝ }
 {
     let mut i = 0;
     let mut j = at;

@@ -1,55 +1,41 @@
 // Reading the lines of a text.
+use crate::field::Found;
+use crate::field::find_end;
+use crate::letters::Named;
+use crate::letters::method_by;
+use crate::names::Names;
+use crate::names::read_position_names;
+use crate::names::read_terms_names;
+use crate::row::Fields;
+use crate::row::read_row;
+use series::Contracts;
+use series::Refusal;
+use series::Terms;
 ghost use mathlib.Core.Path.{_≡_};
 ghost use Prim.Native.Nat.{_≤_};
 ghost use lib.ListN.{length, drop};
 ghost use lib.Seq.{slice};
-ghost use Rattle.series_text.specs.Text.{method as Text·method, readTerms, readHead, readPosition, readPositions, MOST};
-ghost use Rattle.series_text.specs.Parts.{namedMeans, termsMeans, rowMeans, rowsMeans, rowsWithin};
-use crate::Named;
-use crate::field::Found;
-use crate::field::Line;
-use crate::field::find_end;
-use crate::field::skip_line;
-use crate::method_by;
-use crate::names::POSITION_NAMES;
-use crate::names::TERMS_NAMES;
-use crate::number::Field;
-use crate::number::read_number;
-use series::Contracts;
-use series::Method;
-use series::Refusal;
+ghost use Rattle.series_text.specs.Letters.{methodOf};
+ghost use Rattle.series_text.specs.Rows.{readRows};
+ghost use Rattle.series_text.specs.Text.{readTerms, readHead, MOST_LINES};
+ghost use Rattle.series_text.specs.Parts.{namedMeans, termsMeans, positionsMean, positionsWithin};
 
 // The values of line 2, and the index after it.
 pub enum TermsLine {
-    Terms {
-        method: Method,
-        exercised: Contracts,
-        draw: u32,
-        next: usize,
-    },
+    Terms(Terms, usize),
     Refused(Refusal),
 }
 
-// A position, and the index after its line.
-pub enum Row {
-    Position {
-        account: u32,
-        short: u32,
-        next: usize,
-    },
-    Malformed,
-}
-
 // How many positions were read.
-pub enum Rows {
-    Positions(usize),
+pub enum Positions {
+    Read(usize),
     Refused(Refusal),
 }
 
 // The method that the field from one index to another names: exactly W, P or L.
 fn read_method(text: &[u8], from: usize, to: usize) -> Named
     requires { ⌜ (from ≤ to) × (to ≤ length (now text)) ⌝ }
-    ensures { λ r. ⌜ namedMeans r ≡ Text·method (slice from to (now (text .entry))) ⌝ }
+    ensures { λ r. ⌜ namedMeans r ≡ methodOf (slice from to (now (text .entry))) ⌝ }
 {
     let bytes = to - from;
     if bytes != 1 {
@@ -59,33 +45,31 @@ fn read_method(text: &[u8], from: usize, to: usize) -> Named
 }
 
 // Line 2 at an index: its fields first, then the method, then the numbers.
-pub fn read_terms(text: &[u8], at: usize) -> TermsLine
+fn read_terms(text: &[u8], at: usize) -> TermsLine
     ensures { λ r. ⌜ termsMeans (now (text .entry)) r ≡ readTerms (drop at (now (text .entry))) ⌝ }
 {
-    let Found::At(first) = find_end(text, at, b',') else {
+    let Found::At(comma) = find_end(text, at, b',') else {
         return TermsLine::Refused(Refusal::Malformed);
     };
-    let Found::At(second) = find_end(text, first + 1, b',') else {
+    let mut values = [0u32; 2];
+    let fields = read_row(text, comma + 1, &mut values);
+    if let Fields::Missing = fields {
         return TermsLine::Refused(Refusal::Malformed);
-    };
-    let Found::At(third) = find_end(text, second + 1, b'\n') else {
-        return TermsLine::Refused(Refusal::Malformed);
-    };
-    let Named::Method(method) = read_method(text, at, first) else {
+    }
+    let Named::Method(method) = read_method(text, at, comma) else {
         return TermsLine::Refused(Refusal::UnknownMethod);
     };
-    let Field::Number(exercised, _) = read_number(text, first + 1, b',') else {
+    let Fields::Numbers(next) = fields else {
         return TermsLine::Refused(Refusal::Malformed);
     };
-    let Field::Number(draw, _) = read_number(text, second + 1, b'\n') else {
-        return TermsLine::Refused(Refusal::Malformed);
-    };
-    TermsLine::Terms {
-        method,
-        exercised: Contracts(exercised),
-        draw,
-        next: third + 1,
-    }
+    TermsLine::Terms(
+        Terms {
+            method,
+            exercised: Contracts(values[0]),
+            draw: values[1],
+        },
+        next,
+    )
 }
 
 // Lines 1 to 3 of a text that is not too long.
@@ -95,71 +79,45 @@ pub fn read_head(text: &[u8]) -> TermsLine
     if text.len() > 32768 {
         return TermsLine::Refused(Refusal::TextTooLong);
     }
-    let Line::Ends(line2) = skip_line(text, 0, &TERMS_NAMES) else {
+    let Names::Line(_, line2) = read_terms_names(text, 0) else {
         return TermsLine::Refused(Refusal::NamesLine);
     };
     match read_terms(text, line2) {
         TermsLine::Refused(refusal) => TermsLine::Refused(refusal),
-        TermsLine::Terms {
-            method,
-            exercised,
-            draw,
-            next,
-        } => {
-            let Line::Ends(lines) = skip_line(text, next, &POSITION_NAMES) else {
+        TermsLine::Terms(terms, line3) => {
+            let Names::Line(_, lines) = read_position_names(text, line3) else {
                 return TermsLine::Refused(Refusal::NamesLine);
             };
-            TermsLine::Terms {
-                method,
-                exercised,
-                draw,
-                next: lines,
-            }
+            TermsLine::Terms(terms, lines)
         }
-    }
-}
-
-// The position line at an index: two numbers and byte 10.
-fn read_position(text: &[u8], at: usize) -> Row
-    ensures { λ r. ⌜ rowMeans (now (text .entry)) r ≡ readPosition (drop at (now (text .entry))) ⌝ }
-{
-    let Field::Number(account, middle) = read_number(text, at, b',') else {
-        return Row::Malformed;
-    };
-    let Field::Number(short, next) = read_number(text, middle, b'\n') else {
-        return Row::Malformed;
-    };
-    Row::Position {
-        account,
-        short,
-        next,
     }
 }
 
 // The position lines from an index to the end of the text, at most 1,024 of them.
-pub fn read_positions(text: &[u8], from: usize, accounts: &mut [u32], shorts: &mut [u32]) -> Rows
-    requires { ⌜ (MOST ≤ length (now accounts)) × (MOST ≤ length (now shorts)) ⌝ }
-    ensures { λ r. ⌜ rowsMeans (now (accounts .exit)) (now (shorts .exit)) r ≡ readPositions MOST (drop from (now (text .entry))) ⌝ }
-    ensures { λ r. ⌜ rowsWithin r ⌝ }
+pub fn read_positions(
+    text: &[u8],
+    from: usize,
+    accounts: &mut [u32],
+    shorts: &mut [u32],
+) -> Positions
+    requires { ⌜ (MOST_LINES ≤ length (now accounts)) × (MOST_LINES ≤ length (now shorts)) ⌝ }
+    ensures { λ r. ⌜ positionsMean (now (accounts .exit)) (now (shorts .exit)) r ≡ readRows MOST_LINES 2 (drop from (now (text .entry))) ⌝ }
+    ensures { λ r. ⌜ positionsWithin r ⌝ }
 {
+    let mut row = [0u32; 2];
     let mut at = from;
     let mut n: usize = 0;
     while at < text.len() {
         if n >= 1024 {
-            return Rows::Refused(Refusal::TooManyLines);
+            return Positions::Refused(Refusal::TooManyLines);
         }
-        let Row::Position {
-            account,
-            short,
-            next,
-        } = read_position(text, at)
-        else {
-            return Rows::Refused(Refusal::Malformed);
+        let Fields::Numbers(next) = read_row(text, at, &mut row) else {
+            return Positions::Refused(Refusal::Malformed);
         };
-        accounts[n] = account;
-        shorts[n] = short;
+        accounts[n] = row[0];
+        shorts[n] = row[1];
         n += 1;
         at = next;
     }
-    Rows::Positions(n)
+    Positions::Read(n)
 }

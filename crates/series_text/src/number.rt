@@ -5,8 +5,8 @@ ghost use Prim.Native.Nat.{_≤_};
 ghost use lib.ListN.{length, drop};
 ghost use lib.Seq.{slice};
 ghost use Rattle.series_text.specs.Numbers.{spelled};
-ghost use Rattle.series_text.specs.Text.{ends, numberBy};
-ghost use Rattle.series_text.specs.Parts.{fieldMeans};
+ghost use Rattle.series_text.specs.Fields.{ends};
+ghost use Rattle.series_text.specs.Parts.{fieldMeans, numberBy};
 
 // A number, and the index of the byte after its field.
 pub enum Field {

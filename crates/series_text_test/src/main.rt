@@ -3,8 +3,9 @@ use libc::STDOUT_FILENO;
 use series::Contracts;
 use series::Method;
 use series::Refusal;
+use series::Terms;
 use series_text::Reading;
-use series_text::Writing;
+use text_writing::Writing;
 
 fn print(bytes: &[u8]) {
     io::write_all(STDOUT_FILENO, bytes);
@@ -33,6 +34,14 @@ fn print_method(method: Method) {
     }
 }
 
+fn print_terms(terms: Terms) {
+    let method = terms.method;
+    let exercised = terms.exercised;
+    print_method(method);
+    print_number(exercised.0 as u64);
+    print_number(terms.draw as u64);
+}
+
 fn print_refusal(refusal: Refusal) {
     print(b"refused ");
     print_number(series::number(refusal) as u64);
@@ -40,9 +49,9 @@ fn print_refusal(refusal: Refusal) {
 }
 
 // Writes a series to an output of 96 bytes, and prints the answer and the whole output.
-fn rewrite(method: Method, exercised: Contracts, draw: u32, accounts: &[u32], shorts: &[u32]) {
+fn rewrite(terms: Terms, accounts: &[u32], shorts: &[u32]) {
     let mut output = [b'.'; 96];
-    match series_text::write(method, exercised, draw, accounts, shorts, &mut output) {
+    match text_writing::write(terms, accounts, shorts, &mut output) {
         Writing::Written(n) => {
             print(b"written ");
             print_number(n as u64);
@@ -55,21 +64,14 @@ fn rewrite(method: Method, exercised: Contracts, draw: u32, accounts: &[u32], sh
 }
 
 // Rewrites the first n positions of two lists.
-fn rewrite_first(
-    method: Method,
-    exercised: Contracts,
-    draw: u32,
-    accounts: &[u32],
-    shorts: &[u32],
-    n: usize,
-) {
+fn rewrite_first(terms: Terms, accounts: &[u32], shorts: &[u32], n: usize) {
     if n > accounts.len() {
         return;
     }
     if n > shorts.len() {
         return;
     }
-    rewrite(method, exercised, draw, &accounts[..n], &shorts[..n]);
+    rewrite(terms, &accounts[..n], &shorts[..n]);
 }
 
 // Reads a text into lists of 6, prints what they hold, and rewrites the series.
@@ -82,21 +84,14 @@ fn reread(text: &[u8]) {
             print_list(&accounts);
             print_list(&shorts);
         }
-        Reading::Series {
-            method,
-            exercised,
-            draw,
-            positions,
-        } => {
+        Reading::Series { terms, positions } => {
             print(b"read ");
-            print_method(method);
-            print_number(exercised.0 as u64);
-            print_number(draw as u64);
+            print_terms(terms);
             print_number(positions as u64);
             print(b"\n");
             print_list(&accounts);
             print_list(&shorts);
-            rewrite_first(method, exercised, draw, &accounts, &shorts, positions);
+            rewrite_first(terms, &accounts, &shorts, positions);
         }
     }
 }
@@ -158,14 +153,20 @@ fn limits() {
     reread_first(&text, 32769);
 }
 
+fn terms(method: Method, exercised: u32, draw: u32) -> Terms {
+    Terms {
+        method,
+        exercised: Contracts(exercised),
+        draw,
+    }
+}
+
 // What writing refuses.
 fn writings() {
-    rewrite(Method::Lottery, Contracts(13), 4855, &[1, 2, 3], &[5, 8]);
-    rewrite(Method::Wheel, Contracts(1), 1, &[1u32; 1025], &[1u32; 1025]);
+    rewrite(terms(Method::Lottery, 13, 4855), &[1, 2, 3], &[5, 8]);
+    rewrite(terms(Method::Wheel, 1, 1), &[1u32; 1025], &[1u32; 1025]);
     rewrite(
-        Method::ProRata,
-        Contracts(4294967295),
-        4294967295,
+        terms(Method::ProRata, 4294967295, 4294967295),
         &[4294967295, 4294967295],
         &[4294967295, 4294967295],
     );

@@ -47,6 +47,10 @@ pub fn respond(text: &[u8], room: usize) -> String {
     format!("respond {} {room}", hex(text))
 }
 
+pub fn explain(number: u32, line: &[u8], room: usize) -> String {
+    format!("explain {number} {} {room}", hex(line))
+}
+
 pub fn program(text: &[u8], feed: Feed) -> String {
     let by = match feed {
         Feed::Pipe => "pipe".to_string(),
@@ -92,6 +96,7 @@ pub fn again(line: &str) -> Result<bool, String> {
         "read" => crate::read(&to_bytes(words[1]), room(2), room(3)),
         "write" => crate::write(to_method(words[1]), n(2), n(3), &to_list(words[4]), &to_list(words[5]), room(6)),
         "respond" => crate::respond(&to_bytes(words[1]), room(2)),
+        "explain" => crate::explain(n(1), &to_bytes(words[2]), room(3)),
         "assign" => program::compare(&to_bytes(words[2]), to_feed(words[1])),
         other => panic!("no such call: {other}"),
     }

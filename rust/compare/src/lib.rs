@@ -171,6 +171,23 @@ pub fn respond(text: &[u8], room: usize) -> Result<bool, String> {
     ))
 }
 
+/// The call for the words of a number; answers whether the line fitted.
+pub fn explain(number: u32, line: &[u8], room: usize) -> Result<bool, String> {
+    let mut output = Lent::new(room, kept_byte);
+    let length = calls::explain(number, output.slice());
+    let fits = line.len() <= room;
+    let written = if fits { line } else { &[][..] };
+    if length == line.len() && output.is(written, kept_byte) {
+        return Ok(fits);
+    }
+    Err(format!(
+        "{}\n  length: expected {}, found {length}; bytes differ {}",
+        cases::explain(number, line, room),
+        line.len(),
+        output.first_difference(written, kept_byte)
+    ))
+}
+
 /// Counts the cases of a test; a case that differs ends it.
 pub struct Count {
     what: &'static str,

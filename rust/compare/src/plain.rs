@@ -81,7 +81,7 @@ pub fn allocate(
     match method {
         b'W' => judged(method, list, exercised, draw, amounts, wheel),
         b'P' => judged(method, list, exercised, draw, amounts, pro_rata),
-        _ => judged(method, list, exercised, draw, amounts, starting_number),
+        _ => judged(method, list, exercised, draw, amounts, lottery),
     }
 }
 
@@ -329,7 +329,7 @@ fn round_two(amounts: &mut [u32], decimals: &[u32], last: u32, equal: u32, serve
     }
 }
 
-fn starting_number(shorts: &[u32], total: u32, exercised: u32, draw: u32, amounts: &mut [u32]) -> u32 {
+fn lottery(shorts: &[u32], total: u32, exercised: u32, draw: u32, amounts: &mut [u32]) -> u32 {
     let start = (u64::from(draw) * u64::from(total)).div_ceil(10_000) as u32;
     let (first, here) = find(shorts, start);
     let mut left = exercised - exercised.min(here);

@@ -13,7 +13,7 @@ fn shares(method: Method, shorts: &[u32], exercised: u32, total: u32) {
         let draw = if method == Method::Wheel { place } else { place * 10_000 / total };
         let answer =
             dilbreth::allocate(method, &accounts, shorts, exercised, draw, &mut amounts).expect("an allocation");
-        if method == Method::StartingNumber {
+        if method == Method::Lottery {
             assert_eq!(answer.further, place);
         }
         for (sum, &amount) in sums.iter_mut().zip(&amounts) {
@@ -34,7 +34,7 @@ fn every_starting_place() {
             let positions = random.between(1, 12.min(most)) as usize;
             let list = make::series(&mut random, positions, most, true);
             let exercised = random.between(1, most) as u32;
-            for method in [Method::Wheel, Method::StartingNumber] {
+            for method in [Method::Wheel, Method::Lottery] {
                 shares(method, &list.shorts, exercised, most as u32);
                 shares(method, &list.shorts, (most - 1).max(1) as u32, most as u32);
                 series += 2;

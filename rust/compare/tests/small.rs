@@ -50,6 +50,6 @@ fn every_small_pro_rata() {
 }
 
 #[test]
-fn every_small_starting_number() {
+fn every_small_lottery() {
     all("small L", b'L', |_| (0..=10_001).chain([u32::MAX]).collect());
 }

@@ -15,8 +15,8 @@ const KNOWN: [Known; 12] = [
     (Method::ProRata, &[1, 1, 1], 1, 5, &[0, 0, 1], 1),
     (Method::ProRata, &[1, 1, 1], 2, 2, &[1, 0, 1], 2),
     (Method::ProRata, &[3, 1, 2], 2, 0, &[1, 0, 1], 2),
-    (Method::StartingNumber, &[5, 8, 2, 10, 11], 13, 4855, &[0, 0, 0, 8, 5], 18),
-    (Method::StartingNumber, &[5, 8, 2, 10, 11], 2, 10000, &[1, 0, 0, 0, 1], 36),
+    (Method::Lottery, &[5, 8, 2, 10, 11], 13, 4855, &[0, 0, 0, 8, 5], 18),
+    (Method::Lottery, &[5, 8, 2, 10, 11], 2, 10000, &[1, 0, 0, 0, 1], 36),
 ];
 
 #[test]
@@ -36,7 +36,7 @@ fn case_m_in_full() {
     let text = b"method,exercised,draw\nL,13,4855\naccount,short\n1,5\n2,8\n3,2\n4,10\n5,11\n";
     let (mut accounts, mut shorts) = ([0; 6], [0; 6]);
     let terms = dilbreth::read(text, &mut accounts, &mut shorts).unwrap();
-    assert_eq!(terms, Terms { method: Method::StartingNumber, exercised: 13, draw: 4855, positions: 5 });
+    assert_eq!(terms, Terms { method: Method::Lottery, exercised: 13, draw: 4855, positions: 5 });
     assert_eq!((accounts, shorts), ([1, 2, 3, 4, 5, 0], [5, 8, 2, 10, 11, 0]));
     let mut bytes = [0; 100];
     let length = dilbreth::write(terms.method, 13, 4855, &accounts[..5], &shorts[..5], &mut bytes).unwrap();
@@ -51,5 +51,5 @@ fn refusals_are_errors() {
     assert_eq!(dilbreth::read(b"", &mut [], &mut []), Err(Refused(12)));
     assert_eq!(dilbreth::write(Method::Wheel, 1, 1, &[1], &[], &mut []), Err(Refused(1)));
     assert_eq!(dilbreth::respond(b"", &mut []), Err(Refused(4)));
-    assert_eq!(Refused(3).to_string(), "refused, 3: no positions");
+    assert_eq!(Refused(3).to_string(), "refused, 3: there are no positions");
 }

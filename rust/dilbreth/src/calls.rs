@@ -1,5 +1,5 @@
-//! The four calls in their C shape, over slices and references: each answers 0 or the number of a
-//! refusal, and on a refusal writes nothing.
+//! The calls in their C shape, over slices and references: each but `explain` answers 0 or the number
+//! of a refusal, and on a refusal writes nothing.
 
 use crate::ffi;
 
@@ -86,4 +86,9 @@ pub fn write(
 
 pub fn respond(text: &[u8], output: &mut [u8], written: &mut usize) -> u32 {
     unsafe { ffi::dilbreth_respond(text.as_ptr(), text.len(), output.as_mut_ptr(), output.len(), written) }
+}
+
+/// The length of the line for the number of a refusal; the line is written where it fits.
+pub fn explain(number: u32, line: &mut [u8]) -> usize {
+    unsafe { ffi::dilbreth_explain(number, line.as_mut_ptr(), line.len()) }
 }

@@ -48,4 +48,6 @@ extern "C" {
         output_len: usize,
         written: *mut usize,
     ) -> u32;
+
+    pub fn dilbreth_explain(number: u32, line: *mut u8, line_len: usize) -> usize;
 }

@@ -5,11 +5,14 @@ mod ffi;
 
 use std::fmt;
 
+/// DILBRETH_VERSION of the header.
+pub const VERSION: u32 = 2;
+
 #[derive(Clone, Copy, Debug, PartialEq, Eq)]
 pub enum Method {
     Wheel,
     ProRata,
-    StartingNumber,
+    Lottery,
 }
 
 impl Method {
@@ -17,7 +20,7 @@ impl Method {
         match self {
             Method::Wheel => b'W',
             Method::ProRata => b'P',
-            Method::StartingNumber => b'L',
+            Method::Lottery => b'L',
         }
     }
 
@@ -25,7 +28,7 @@ impl Method {
         match byte {
             b'W' => Some(Method::Wheel),
             b'P' => Some(Method::ProRata),
-            b'L' => Some(Method::StartingNumber),
+            b'L' => Some(Method::Lottery),
             _ => None,
         }
     }
@@ -37,25 +40,7 @@ pub struct Refused(pub u32);
 
 impl fmt::Display for Refused {
     fn fmt(&self, f: &mut fmt::Formatter<'_>) -> fmt::Result {
-        let meaning = match self.0 {
-            1 => "accounts and shorts differ in length",
-            2 => "more than 4,096 positions",
-            3 => "no positions",
-            4 => "the output is too short",
-            5 => "an account is 0 or not above the one before",
-            6 => "a position has 0 shorts",
-            7 => "the shorts add up to more than 10,000,000",
-            8 => "0 contracts are exercised",
-            9 => "more contracts are exercised than there are shorts",
-            10 => "the draw is out of range",
-            11 => "the text has more than 32,768 bytes",
-            12 => "line 1 or line 3 of the text is missing or not exact",
-            13 => "a line of the text is malformed",
-            14 => "the method is unknown",
-            15 => "more than 1,024 positions in a text",
-            _ => "unknown",
-        };
-        write!(f, "refused, {}: {meaning}", self.0)
+        write!(f, "refused, {}: {}", self.0, explain(self.0))
     }
 }
 
@@ -128,4 +113,11 @@ pub fn respond(text: &[u8], output: &mut [u8]) -> Result<usize, Refused> {
     let mut written = 0;
     accepted(calls::respond(text, output, &mut written))?;
     Ok(written)
+}
+
+/// The words for the number of a refusal, without a line end.
+pub fn explain(number: u32) -> String {
+    let mut line = vec![0; calls::explain(number, &mut [])];
+    calls::explain(number, &mut line);
+    String::from_utf8_lossy(&line).trim_end().to_string()
 }

@@ -88,7 +88,7 @@ pub fn allocate(
     let (amounts, further) = match method {
         b'W' => wheel(shorts, total, exercised, draw),
         b'P' => pro_rata(shorts, total, exercised, draw),
-        _ => starting_number(shorts, total, exercised, draw),
+        _ => lottery(shorts, total, exercised, draw),
     };
     Ok(Allocation { amounts, total, further })
 }
@@ -187,7 +187,7 @@ pub fn starting_place(total: u32, draw: u32) -> u32 {
     (u64::from(draw) * u64::from(total)).div_ceil(10_000) as u32
 }
 
-fn starting_number(shorts: &[u32], total: u32, exercised: u32, draw: u32) -> (Vec<u32>, u32) {
+fn lottery(shorts: &[u32], total: u32, exercised: u32, draw: u32) -> (Vec<u32>, u32) {
     let owners = owners(shorts);
     let start = starting_place(total, draw);
     let mut amounts = vec![0; shorts.len()];

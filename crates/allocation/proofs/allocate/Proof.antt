@@ -1,71 +1,62 @@
+-- `allocate` meets its contract: the call is that of the method.
 use borrow.Author.Needs.{needs}
-use mathlib.Core.Path.{_≡_, sym, ap, subst, _∙_}
-use lib.ListN.{length}
-use lib.Seq.{length-take-le}
-use Rattle.series.specs.Places.{total}
-use Rattle.series.specs.Answers.{outcomeOf}
-use Rattle.allocation.specs.Judged.{verdictOf, TotalOf}
-use Rattle.allocation.proofs.AllocateLaws.{fits, call-refused, call-asks, call-allocated}
+use Rattle.series.specs.declared.Method.{Method}
+use Rattle.judging.proofs.CallLaws.{by-method}
 use Rattle.allocation.proofs.allocate.Statement.{statement}
 use Rattle.allocation.proofs.allocate.Tie as tie
 
-judge-requires : tie.Need-judge-requires
-judge-requires c κs = search needs
+enum-told : tie.Need-enum-told
+enum-told c = search needs
 
-enum-known-judged : tie.Need-enum-known-judged
-enum-known-judged c = search needs
+allocate-wheel-requires : tie.Need-allocate-wheel-requires
+allocate-wheel-requires c κs = search needs
 
-enum-known-judged-2 : tie.Need-enum-known-judged-2
-enum-known-judged-2 c = search needs
+enum-told-2 : tie.Need-enum-told-2
+enum-told-2 c = search needs
 
-slice-relend-prefix-assign : tie.Need-slice-relend-prefix-assign
-slice-relend-prefix-assign c =
-    let a = c .before .before .before .before .before .before .before .args in
-    let judge = c .before .before .before .judge in
-    let is = c .before .judged2 .given .1 in
-    fits (a .method) (a .accounts .now) (a .shorts .now) (a .exercised .0) (a .draw) (a .amounts .now) (sym (ap verdictOf is) ∙ judge .ensures .0) (c .before .judged2 .given .0 .0 .0) (subst (TotalOf (total (a .shorts .now))) is (judge .ensures .1))
+allocate-requires : tie.Need-allocate-requires
+allocate-requires c κs = search needs
 
-slice-aggregate-assign : tie.Need-slice-aggregate-assign
-slice-aggregate-assign c =
-    let a = c .before .before .before .before .before .before .before .before .args in
-    let judge = c .before .before .before .before .judge in
-    let is = c .before .before .judged2 .given .1 in
-    sym (length-take-le (length (a .shorts .now)) (a .amounts .now) (fits (a .method) (a .accounts .now) (a .shorts .now) (a .exercised .0) (a .draw) (a .amounts .now) (sym (ap verdictOf is) ∙ judge .ensures .0) (c .before .before .judged2 .given .0 .0 .0) (subst (TotalOf (total (a .shorts .now))) is (judge .ensures .1))))
+enum-told-3 : tie.Need-enum-told-3
+enum-told-3 c = search needs
 
-assign-requires : tie.Need-assign-requires
-assign-requires c κs =
-    let a = c .before .before .before .before .before .before .before .before .args in
-    let judge = c .before .before .before .before .judge in
-    let is = c .before .before .judged2 .given .1 in
-    call-asks (a .method) (a .accounts .now) (a .shorts .now) (a .exercised .0) (a .draw) (a .amounts .now) (sym (ap verdictOf is) ∙ judge .ensures .0) (c .before .before .judged2 .given .0 .0 .0) (subst (TotalOf (total (a .shorts .now))) is (judge .ensures .1))
-
-returns : tie.Need-returns
-returns c =
-    let a = c .before .before .before .before .before .before .before .args in
-    let judge = c .before .before .before .judge in
-    let is = c .before .judged .given .1 in
-    call-refused (a .method) (a .accounts .now) (a .shorts .now) (a .exercised .0) (a .draw) (a .amounts .now) _ (sym (ap verdictOf is) ∙ judge .ensures .0)
+allocate-lottery-requires : tie.Need-allocate-lottery-requires
+allocate-lottery-requires c κs = search needs
 
 same-length : tie.Need-same-length
 same-length c = search needs
 
+returns : tie.Need-returns
+returns c = let a = c .before .before .before .before .before .before .before .before .before .before .args in
+    by-method (a .terms) Method.Wheel (a .accounts .now) (a .shorts .now) _ (a .amounts .now) _ (c .before .before .before .before .enum-told .given .1) (c .before .before .allocate-wheel .ensures)
+
+same-length-2 : tie.Need-same-length-2
+same-length-2 c = search needs
+
 returns-2 : tie.Need-returns-2
-returns-2 c =
-    let a = c .before .before .before .before .before .before .before .before .before .before .before .args in
-    let judge = c .before .before .before .before .before .before .before .judge in
-    let is = c .before .before .before .before .before .judged2 .given .1 in
-    call-allocated (a .method) (a .accounts .now) (a .shorts .now) (a .exercised .0) (a .draw) (a .amounts .now) (sym (ap verdictOf is) ∙ judge .ensures .0) (c .before .before .before .before .before .judged2 .given .0 .0 .0) (subst (TotalOf (total (a .shorts .now))) is (judge .ensures .1)) (outcomeOf (c .before .before .assign .result)) (c .before .before .assign .last .1 .1 .1 .1 .1 .0) (c .before .before .assign .ensures .0) (c .before .before .assign .ensures .1)
+returns-2 c = let a = c .before .before .before .before .before .before .before .before .before .before .args in
+    by-method (a .terms) Method.ProRata (a .accounts .now) (a .shorts .now) _ (a .amounts .now) _ (c .before .before .before .before .enum-told2 .given .1) (c .before .before .allocate .ensures)
+
+same-length-3 : tie.Need-same-length-3
+same-length-3 c = search needs
+
+returns-3 : tie.Need-returns-3
+returns-3 c = let a = c .before .before .before .before .before .before .before .before .before .before .args in
+    by-method (a .terms) Method.Lottery (a .accounts .now) (a .shorts .now) _ (a .amounts .now) _ (c .before .before .before .before .enum-told3 .given .1) (c .before .before .allocate-lottery .ensures)
 
 pub allocate-spec : {M : Type 1} → statement M
 allocate-spec =
     tie.close
     (tie.spec
-    judge-requires
-    enum-known-judged
-    enum-known-judged-2
-    slice-relend-prefix-assign
-    slice-aggregate-assign
-    assign-requires
-    returns
+    enum-told
+    allocate-wheel-requires
+    enum-told-2
+    allocate-requires
+    enum-told-3
+    allocate-lottery-requires
     same-length
-    returns-2)
+    returns
+    same-length-2
+    returns-2
+    same-length-3
+    returns-3)

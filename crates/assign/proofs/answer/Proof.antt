@@ -1,21 +1,26 @@
--- `answer` is safe: the bytes that are printed lie within the output. Assumes nothing.
+-- `answer` is safe: the bytes that are printed lie within the output.
 use Prim.Native.Nat.{_≤_}
 use mathlib.Core.Path.{sym, ap}
 use native.Mathlib.Omega.{arith}
 use lib.ListN.{length}
 use lib.Seq.{length-take-le}
 use Rattle.assignment_text.specs.Responses.{responseOf}
-use Rattle.assignment_text.proofs.PrintLaws.{printed-within}
+use Rattle.assignment_text.proofs.RoomLaws.{printed-room}
 use borrow.Author.Needs.{needs}
 use Rattle.assign.proofs.answer.Statement.{statement}
 use Rattle.assign.proofs.answer.Tie as tie
 
--- what was printed for an allocation, and for a refusal
 assigned : (c : tie.After-known-told) → c .before .n .given .0 .0 ≤ length (c .before .before .before .before .before .respond .last .1 .0)
-assigned c = omega (arith, printed-within (c .before .before .before .before .before .before .before .before .before .args .text .now) (c .before .before .before .before .before .respond .result) _ (c .before .n .given .0 .0) (ap responseOf (c .before .n .given .1)) (c .before .before .before .before .before .respond .ensures .0), c .before .before .before .before .before .respond .kept .1 .0)
+assigned c =
+    let start = c .before .before .before .before .before .before .before .before .before in
+    let respond = c .before .before .before .before .before .respond in
+    omega (arith, respond .ensures .bytes, ap (λ r. responseOf r .written) (c .before .n .given .1), printed-room (start .args .text .now) .most, start .pre, respond .kept .1 .0)
 
 refused : (c : tie.After-known-told2) → c .before .n2 .given .0 .0 ≤ length (c .before .before .before .before .before .respond .last .1 .0)
-refused c = omega (arith, printed-within (c .before .before .before .before .before .before .before .before .before .args .text .now) (c .before .before .before .before .before .respond .result) _ (c .before .n2 .given .0 .0) (ap responseOf (c .before .n2 .given .1)) (c .before .before .before .before .before .respond .ensures .0), c .before .before .before .before .before .respond .kept .1 .0)
+refused c =
+    let start = c .before .before .before .before .before .before .before .before .before in
+    let respond = c .before .before .before .before .before .respond in
+    omega (arith, respond .ensures .bytes, ap (λ r. responseOf r .written) (c .before .n2 .given .1), printed-room (start .args .text .now) .most, start .pre, respond .kept .1 .0)
 
 respond-requires : tie.Need-respond-requires
 respond-requires c κs = search needs
@@ -47,15 +52,6 @@ print-requires-2 c κs = search needs
 explain-requires : tie.Need-explain-requires
 explain-requires c κs = search needs
 
-enum-told : tie.Need-enum-told
-enum-told c = search needs
-
-slice-aggregate-say : tie.Need-slice-aggregate-say
-slice-aggregate-say c = search needs
-
-say-requires : tie.Need-say-requires
-say-requires c κs = search needs
-
 same-length : tie.Need-same-length
 same-length c = search needs
 
@@ -74,12 +70,6 @@ same-length-3 c = search needs
 returns-3 : tie.Need-returns-3
 returns-3 c = search needs
 
-same-length-4 : tie.Need-same-length-4
-same-length-4 c = search needs
-
-returns-4 : tie.Need-returns-4
-returns-4 c = search needs
-
 pub answer-spec : {M : Type 1} → statement M
 answer-spec =
     tie.close
@@ -94,14 +84,9 @@ answer-spec =
     slice-aggregate-print-2
     print-requires-2
     explain-requires
-    enum-told
-    slice-aggregate-say
-    say-requires
     same-length
     returns
     same-length-2
     returns-2
     same-length-3
-    returns-3
-    same-length-4
-    returns-4)
+    returns-3)

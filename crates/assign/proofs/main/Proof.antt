@@ -1,4 +1,4 @@
--- `main` is safe: the bytes that are answered lie within the input's buffer. Assumes nothing.
+-- `main` is safe: the bytes that are answered lie within the input's buffer.
 use Prim.Native.Nat.{_≤_}
 use mathlib.Core.Path.{sym, subst}
 use native.Mathlib.Omega.{arith}

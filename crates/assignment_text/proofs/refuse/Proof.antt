@@ -1,13 +1,15 @@
--- `refuse` meets its contract: the note that is written is what is printed for the refusal. Assumes nothing.
+-- `refuse` meets its contract: the note that is written is what is printed for the refusal.
 use mathlib.Core.Path.{_≡_, refl}
 use lib.ListN.{length}
 use Rattle.series.specs.Answers.{numberOf}
-use Rattle.series.specs.Refusals.{refused}
-use Rattle.series_text.specs.Ascii.{ascii}
-use Rattle.series_text.specs.Calls.{writingOf, lengthOf, textAfter}
-use Rattle.assignment_text.specs.Printed.{refusedLines, textInto}
-use Rattle.assignment_text.specs.declared.Response.the-variants.{Refused}
-use Rattle.assignment_text.proofs.PrintLaws.{note-is, print-short, print-all}
+use Rattle.series.specs.Results.{after}
+use Rattle.series.specs.Outputs.{onto}
+use Rattle.series.specs.Ascii.{ascii}
+use Rattle.text_writing.specs.Answers.{writingOf}
+use Rattle.series_text.specs.Calls.{lengthOf}
+use Rattle.assignment_text.specs.Printed.{refusedLines}
+use Rattle.assignment_text.specs.declared.Response.{Response}
+use Rattle.assignment_text.proofs.PrintLaws.{textInto, note-is, print-short, print-all}
 use borrow.Author.Needs.{needs}
 use Rattle.assignment_text.proofs.refuse.Statement.{statement}
 use Rattle.assignment_text.proofs.refuse.Tie as tie
@@ -17,7 +19,7 @@ hands : (c : tie.After-write-note) → writingOf (c .write-note .result) ≡ len
 unfolding ascii
 hands c = rw (c .before .before .number .ensures, note-is) at (c .write-note .ensures .0)
 
-out : (c : tie.After-write-note) → c .write-note .last .1 .1 .0 ≡ textAfter (textInto (refusedLines (numberOf (c .before .before .before .before .before .args .refusal))) (length (c .before .before .before .before .before .args .output .now))) (c .before .before .before .before .before .args .output .now)
+out : (c : tie.After-write-note) → c .write-note .last .1 .1 .0 ≡ after (textInto (refusedLines (numberOf (c .before .before .before .before .before .args .refusal))) (length (c .before .before .before .before .before .args .output .now))) (λ t. onto t (c .before .before .before .before .before .args .output .now)) (c .before .before .before .before .before .args .output .now)
 unfolding ascii
 out c = rw (c .before .before .number .ensures, note-is) at (c .write-note .ensures .1)
 
@@ -41,15 +43,15 @@ same-length c = search needs
 
 returns : tie.Need-returns
 returns c = let a = c .before .before .before .before .before .before .before .before .before .before .args in
-    print-all (refused (numberOf (a .refusal))) (refusedLines (numberOf (a .refusal))) (a .output .now) _ (c .before .before .before .before .before .write-note .result) (hands (c .before .before .before .before .before)) (out (c .before .before .before .before .before))
-    (Refused (c .before .n .given .0 .0) (a .refusal)) (c .before .n .given .0 .0) (c .before .n .given .1) refl refl
+    print-all (numberOf (a .refusal)) (refusedLines (numberOf (a .refusal))) (a .output .now) _ (c .before .before .before .before .before .write-note .result) (hands (c .before .before .before .before .before)) (out (c .before .before .before .before .before))
+    (Response.Refused (c .before .n .given .0 .0) (a .refusal)) (c .before .n .given .0 .0) (c .before .n .given .1) refl
 
 same-length-2 : tie.Need-same-length-2
 same-length-2 c = search needs
 
 returns-2 : tie.Need-returns-2
 returns-2 c = let a = c .before .before .before .before .before .before .before .before .before .args in
-    print-short (refused (numberOf (a .refusal))) (refusedLines (numberOf (a .refusal))) (a .output .now) _ (c .before .before .before .before .write-note .result) (hands (c .before .before .before .before)) (out (c .before .before .before .before)) _ (c .enum-told .given .1)
+    print-short (numberOf (a .refusal)) (refusedLines (numberOf (a .refusal))) (a .output .now) _ (c .before .before .before .before .write-note .result) (hands (c .before .before .before .before)) (out (c .before .before .before .before)) _ (c .enum-told .given .1)
 
 pub refuse-spec : {M : Type 1} → statement M
 refuse-spec =

@@ -1,8 +1,9 @@
-use borrow.Author.Needs.{needs}
-use mathlib.Core.Path.{_≡_, sym, ap, _∙_}
-use Rattle.series.specs.Answers.{outcomeOf}
+-- `dilbreth_allocate` meets its contract: the letter's method is called, and its answer handed back.
+use mathlib.Core.Path.{sym, ap, _∙_}
+use Rattle.series.specs.Answers.{answerOf}
 use Rattle.series_text.specs.Parts.{namedMeans}
-use Rattle.dilbreth.proofs.ExportLaws.{letter-unknown, letter-known}
+use Rattle.dilbreth.proofs.ExportLaws.{allocate-unknown, allocate-known}
+use borrow.Author.Needs.{needs}
 use Rattle.dilbreth.proofs.dilbreth_allocate.Statement.{statement}
 use Rattle.dilbreth.proofs.dilbreth_allocate.Tie as tie
 
@@ -16,9 +17,11 @@ enum-told : tie.Need-enum-told
 enum-told c = search needs
 
 returns : tie.Need-returns
-returns c =
-    let a = c .before .before .before .before .before .before .args in
-    letter-unknown (a .method) (a .accounts .now) (a .shorts .now) (a .exercised) (a .draw) (a .amounts .now) (a .total .now) (a .further .now) (sym (ap namedMeans (c .enum-told .given .1)) ∙ c .before .before .method-by .ensures)
+returns c = let a = c .before .before .before .before .before .before .args in
+    allocate-unknown (a .method) (a .exercised) (a .draw) (a .accounts .now) (a .shorts .now) (sym (ap namedMeans (c .enum-told .given .1)) ∙ c .before .before .method-by .ensures) (a .amounts .now) (a .total .now) (a .further .now)
+
+terms-of-requires : tie.Need-terms-of-requires
+terms-of-requires c κs = search needs
 
 allocate-requires : tie.Need-allocate-requires
 allocate-requires c κs = search needs
@@ -42,42 +45,33 @@ same-length : tie.Need-same-length
 same-length c = search needs
 
 returns-2 : tie.Need-returns-2
-returns-2 c =
-    let a = c .before .before .before .before .before .before .before .before .before .before .before .before .before .before .args in
-    let named = c .before .before .before .before .before .before .before .before .named .given in
+returns-2 c = let a = c .before .before .before .before .before .before .before .before .before .before .before .before .before .before .before .args in
     let call = c .before .before .before .before .before .allocate in
-    letter-known (a .method) (a .accounts .now) (a .shorts .now) (a .exercised) (a .draw) (a .amounts .now) (a .total .now) (a .further .now) _ _ (call .last .1 .1 .1 .1 .1 .0) (sym (ap namedMeans (named .1)) ∙ c .before .before .before .before .before .before .before .before .before .before .method-by .ensures) (sym (ap outcomeOf (c .before .sum .given .1)) ∙ call .ensures .0) (call .ensures .1 .0)
+    allocate-known (a .method) (a .exercised) (a .draw) (a .accounts .now) (a .shorts .now) _ (sym (ap namedMeans (c .before .before .before .before .before .before .before .before .before .named .given .1)) ∙ c .before .before .before .before .before .before .before .before .before .before .before .method-by .ensures) _ (c .before .before .before .before .before .before .before .terms-of .ensures) _ (a .amounts .now) _ (a .total .now) (a .further .now) (sym (ap answerOf (c .before .sum .given .1)) ∙ call .ensures .answered) (call .ensures .written)
 
 same-length-2 : tie.Need-same-length-2
 same-length-2 c = search needs
 
 returns-3 : tie.Need-returns-3
-returns-3 c =
-    let a = c .before .before .before .before .before .before .before .before .before .before .before .before .before .before .args in
-    let named = c .before .before .before .before .before .before .before .before .named .given in
+returns-3 c = let a = c .before .before .before .before .before .before .before .before .before .before .before .before .before .before .before .args in
     let call = c .before .before .before .before .before .allocate in
-    letter-known (a .method) (a .accounts .now) (a .shorts .now) (a .exercised) (a .draw) (a .amounts .now) (a .total .now) (a .further .now) _ _ (call .last .1 .1 .1 .1 .1 .0) (sym (ap namedMeans (named .1)) ∙ c .before .before .before .before .before .before .before .before .before .before .method-by .ensures) (sym (ap outcomeOf (c .before .sum2 .given .1)) ∙ call .ensures .0) (call .ensures .1 .0)
+    allocate-known (a .method) (a .exercised) (a .draw) (a .accounts .now) (a .shorts .now) _ (sym (ap namedMeans (c .before .before .before .before .before .before .before .before .before .named .given .1)) ∙ c .before .before .before .before .before .before .before .before .before .before .before .method-by .ensures) _ (c .before .before .before .before .before .before .before .terms-of .ensures) _ (a .amounts .now) _ (a .total .now) (a .further .now) (sym (ap answerOf (c .before .sum2 .given .1)) ∙ call .ensures .answered) (call .ensures .written)
 
 same-length-3 : tie.Need-same-length-3
 same-length-3 c = search needs
 
 returns-4 : tie.Need-returns-4
-returns-4 c =
-    let a = c .before .before .before .before .before .before .before .before .before .before .before .before .before .before .args in
-    let named = c .before .before .before .before .before .before .before .before .named .given in
+returns-4 c = let a = c .before .before .before .before .before .before .before .before .before .before .before .before .before .before .before .args in
     let call = c .before .before .before .before .before .allocate in
-    letter-known (a .method) (a .accounts .now) (a .shorts .now) (a .exercised) (a .draw) (a .amounts .now) (a .total .now) (a .further .now) _ _ (call .last .1 .1 .1 .1 .1 .0) (sym (ap namedMeans (named .1)) ∙ c .before .before .before .before .before .before .before .before .before .before .method-by .ensures) (sym (ap outcomeOf (c .before .sum3 .given .1)) ∙ call .ensures .0) (call .ensures .1 .0)
+    allocate-known (a .method) (a .exercised) (a .draw) (a .accounts .now) (a .shorts .now) _ (sym (ap namedMeans (c .before .before .before .before .before .before .before .before .before .named .given .1)) ∙ c .before .before .before .before .before .before .before .before .before .before .before .method-by .ensures) _ (c .before .before .before .before .before .before .before .terms-of .ensures) _ (a .amounts .now) _ (a .total .now) (a .further .now) (sym (ap answerOf (c .before .sum3 .given .1)) ∙ call .ensures .answered) (call .ensures .written)
 
 same-length-4 : tie.Need-same-length-4
 same-length-4 c = search needs
 
 returns-5 : tie.Need-returns-5
-returns-5 c =
-    let a = c .before .before .before .before .before .before .before .before .before .before .before .before .before .before .before .args in
-    let named = c .before .before .before .before .before .before .before .before .before .named .given in
+returns-5 c = let a = c .before .before .before .before .before .before .before .before .before .before .before .before .before .before .before .before .args in
     let call = c .before .before .before .before .before .before .allocate in
-    let told = letter-known (a .method) (a .accounts .now) (a .shorts .now) (a .exercised) (a .draw) (a .amounts .now) (a .total .now) (a .further .now) _ _ (call .last .1 .1 .1 .1 .1 .0) (sym (ap namedMeans (named .1)) ∙ c .before .before .before .before .before .before .before .before .before .before .before .method-by .ensures) (sym (ap outcomeOf (c .before .before .refusal .given .1)) ∙ call .ensures .0) (call .ensures .1 .0) in
-    (c .number .ensures ∙ told .0, told .1)
+    rw (c .number .ensures) (allocate-known (a .method) (a .exercised) (a .draw) (a .accounts .now) (a .shorts .now) _ (sym (ap namedMeans (c .before .before .before .before .before .before .before .before .before .before .named .given .1)) ∙ c .before .before .before .before .before .before .before .before .before .before .before .before .method-by .ensures) _ (c .before .before .before .before .before .before .before .before .terms-of .ensures) _ (a .amounts .now) _ (a .total .now) (a .further .now) (sym (ap answerOf (c .before .before .refusal .given .1)) ∙ call .ensures .answered) (call .ensures .written))
 
 pub dilbreth-allocate-spec : {M : Type 1} → statement M
 dilbreth-allocate-spec =
@@ -87,6 +81,7 @@ dilbreth-allocate-spec =
     enum-known-named
     enum-told
     returns
+    terms-of-requires
     allocate-requires
     enum-known-sum
     enum-known-sum-2

@@ -1,17 +1,16 @@
+-- `dilbreth_read` meets its contract: what reading hands back stands behind the arguments.
+use mathlib.Core.Path.{sym, ap, _∙_}
+use Rattle.series_text.specs.Calls.{readingOf}
+use Rattle.dilbreth.proofs.ExportLaws.{read-hands}
 use borrow.Author.Needs.{needs}
-use mathlib.Core.Path.{_≡_, sym, ap, _∙_}
-use Rattle.series_text.specs.Calls.{readingOf, readInto, handed}
-use Rattle.dilbreth.specs.Texts.{letterAfter, exercisedAfter, drawAfter, positionsAfter}
-use Rattle.dilbreth.proofs.ExportLaws.{handed-status}
-use lib.ListN.{length}
 use Rattle.dilbreth.proofs.dilbreth_read.Statement.{statement}
 use Rattle.dilbreth.proofs.dilbreth_read.Tie as tie
 
 read-requires : tie.Need-read-requires
 read-requires c κs = search needs
 
-enum-known-named : tie.Need-enum-known-named
-enum-known-named c = search needs
+enum-known-terms : tie.Need-enum-known-terms
+enum-known-terms c = search needs
 
 letter-of-requires : tie.Need-letter-of-requires
 letter-of-requires c κs = search needs
@@ -29,13 +28,9 @@ same-length-2 : tie.Need-same-length-2
 same-length-2 c = search needs
 
 returns : tie.Need-returns
-returns c =
-    let a = c .before .before .before .before .before .before .before .before .before .before .before .before .before .before .args in
-    let call = c .before .before .before .before .before .before .before .before .read in
-    let is = c .before .before .named .given .1 in
-    let told = sym (ap readingOf is) ∙ call .ensures .0 in
-    let number = handed-status _ (readInto (a .text .now) (length (a .accounts .now)) (length (a .shorts .now))) told in
-    (number, (call .ensures .1 .0, (call .ensures .1 .1, (c .letter-of .ensures ∙ ap (λ h. letterAfter h (a .method .now)) told, (ap (λ h. exercisedAfter h (a .exercised .now)) told, ap (λ h. drawAfter h (a .draw .now)) told, ap (λ h. positionsAfter h (a .positions .now)) told)))))
+returns c = let a = c .before .before .before .before .before .before .before .before .before .before .before .before .before .before .args in
+    let read = c .before .before .before .before .before .before .before .before .read in
+    (read .ensures .1 .0, (read .ensures .1 .1, rw (c .letter-of .ensures) (read-hands _ _ (a .method .now) (a .exercised .now) (a .draw .now) (a .positions .now) (sym (ap readingOf (c .before .before .terms .given .1)) ∙ read .ensures .0))))
 
 same-length-3 : tie.Need-same-length-3
 same-length-3 c = search needs
@@ -44,20 +39,16 @@ same-length-4 : tie.Need-same-length-4
 same-length-4 c = search needs
 
 returns-2 : tie.Need-returns-2
-returns-2 c =
-    let a = c .before .before .before .before .before .before .before .before .before .before .before .before .before .before .args in
-    let call = c .before .before .before .before .before .before .before .before .read in
-    let is = c .before .before .refusal .given .1 in
-    let told = sym (ap readingOf is) ∙ call .ensures .0 in
-    let number = handed-status _ (readInto (a .text .now) (length (a .accounts .now)) (length (a .shorts .now))) told in
-    (c .number .ensures ∙ number, (call .ensures .1 .0, (call .ensures .1 .1, (ap (λ h. letterAfter h (a .method .now)) told, (ap (λ h. exercisedAfter h (a .exercised .now)) told, ap (λ h. drawAfter h (a .draw .now)) told, ap (λ h. positionsAfter h (a .positions .now)) told)))))
+returns-2 c = let a = c .before .before .before .before .before .before .before .before .before .before .before .before .before .before .args in
+    let read = c .before .before .before .before .before .before .before .before .read in
+    (read .ensures .1 .0, (read .ensures .1 .1, rw (c .number .ensures) (read-hands _ _ (a .method .now) (a .exercised .now) (a .draw .now) (a .positions .now) (sym (ap readingOf (c .before .before .refusal .given .1)) ∙ read .ensures .0))))
 
 pub dilbreth-read-spec : {M : Type 1} → statement M
 dilbreth-read-spec =
     tie.close
     (tie.spec
     read-requires
-    enum-known-named
+    enum-known-terms
     letter-of-requires
     enum-known-refusal
     number-requires

@@ -1,12 +1,9 @@
-use borrow.Author.Needs.{needs}
-use Prim.Native.Nat.{ℕ}
-use mathlib.Core.Path.{_≡_, sym, ap, _∙_}
-use lib.ListN.{length}
-use Rattle.series_text.specs.Results.{Result}
-use Rattle.assignment_text.specs.Printed.{printInto}
+-- `dilbreth_respond` meets its contract: what is printed has at least one byte, so that no byte tells a short output.
+use mathlib.Core.Path.{refl, sym, ap, _∙_}
+use native.Mathlib.Omega.{arith}
 use Rattle.assignment_text.specs.Responses.{responseOf}
-use Rattle.dilbreth.specs.Texts.{status, numberAfter}
-use Rattle.dilbreth.proofs.ExportLaws.{length-status}
+use Rattle.dilbreth.proofs.ExportLaws.{respond-whole, respond-none}
+use borrow.Author.Needs.{needs}
 use Rattle.dilbreth.proofs.dilbreth_respond.Statement.{statement}
 use Rattle.dilbreth.proofs.dilbreth_respond.Tie as tie
 
@@ -19,38 +16,29 @@ enum-known-n c = search needs
 enum-known-n-2 : tie.Need-enum-known-n-2
 enum-known-n-2 c = search needs
 
-enum-told : tie.Need-enum-told
-enum-told c = search needs
-
 same-length : tie.Need-same-length
 same-length c = search needs
 
 returns : tie.Need-returns
-returns c =
-    let a = c .before .before .before .before .before .before .before .before .before .args in
-    let call = c .before .before .before .before .before .respond in
-    let told = sym (ap responseOf (c .before .n .given .1)) ∙ call .ensures .0 in
-    (ap status told ∙ length-status (printInto (a .text .now) (length (a .output .now))), (call .ensures .1 .0, ap (λ (w : Result ℕ). numberAfter w (a .written .now)) told))
+returns c = let a = c .before .before .before .before .before .before .before .before .before .before .args in
+    let respond = c .before .before .before .before .before .before .respond in
+    respond-none (a .text .now) _ (a .output .now) _ (a .written .now) (respond .result) (c .before .before .n2 .given .0 .0) _ (ap responseOf (c .before .before .n2 .given .1)) (c .if1 .taken) (respond .ensures)
 
 same-length-2 : tie.Need-same-length-2
 same-length-2 c = search needs
 
 returns-2 : tie.Need-returns-2
-returns-2 c =
-    let a = c .before .before .before .before .before .before .before .before .before .args in
-    let call = c .before .before .before .before .before .respond in
-    let told = sym (ap responseOf (c .before .n2 .given .1)) ∙ call .ensures .0 in
-    (ap status told ∙ length-status (printInto (a .text .now) (length (a .output .now))), (call .ensures .1 .0, ap (λ (w : Result ℕ). numberAfter w (a .written .now)) told))
+returns-2 c = let a = c .before .before .before .before .before .before .before .before .before .args in
+    let respond = c .before .before .before .before .before .respond in
+    respond-whole (a .text .now) _ (a .output .now) _ (a .written .now) (respond .result) (c .before .n .given .0 .0) 0 (ap responseOf (c .before .n .given .1)) (λ e _. omega arith) (respond .ensures)
 
 same-length-3 : tie.Need-same-length-3
 same-length-3 c = search needs
 
 returns-3 : tie.Need-returns-3
-returns-3 c =
-    let a = c .before .before .before .before .before .before .before .before .args in
-    let call = c .before .before .before .before .respond in
-    let told = sym (ap responseOf (c .enum-told .given .1)) ∙ call .ensures .0 in
-    (ap status told ∙ length-status (printInto (a .text .now) (length (a .output .now))), (call .ensures .1 .0, ap (λ (w : Result ℕ). numberAfter w (a .written .now)) told))
+returns-3 c = let a = c .before .before .before .before .before .before .before .before .before .before .args in
+    let respond = c .before .before .before .before .before .before .respond in
+    respond-whole (a .text .now) _ (a .output .now) _ (a .written .now) (respond .result) (c .before .before .n2 .given .0 .0) _ (ap responseOf (c .before .before .n2 .given .1)) (λ _ z. c .if1 .left z) (respond .ensures)
 
 pub dilbreth-respond-spec : {M : Type 1} → statement M
 dilbreth-respond-spec =
@@ -59,7 +47,6 @@ dilbreth-respond-spec =
     respond-requires
     enum-known-n
     enum-known-n-2
-    enum-told
     same-length
     returns
     same-length-2

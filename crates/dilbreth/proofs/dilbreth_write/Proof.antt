@@ -1,8 +1,9 @@
-use borrow.Author.Needs.{needs}
-use mathlib.Core.Path.{_≡_, sym, ap, _∙_}
+-- `dilbreth_write` meets its contract: the letter's method is written, and the length handed back.
+use mathlib.Core.Path.{sym, ap, _∙_}
 use Rattle.series_text.specs.Parts.{namedMeans}
-use Rattle.series_text.specs.Calls.{writingOf}
+use Rattle.text_writing.specs.Answers.{writingOf}
 use Rattle.dilbreth.proofs.ExportLaws.{write-unknown, write-known}
+use borrow.Author.Needs.{needs}
 use Rattle.dilbreth.proofs.dilbreth_write.Statement.{statement}
 use Rattle.dilbreth.proofs.dilbreth_write.Tie as tie
 
@@ -16,9 +17,11 @@ enum-told : tie.Need-enum-told
 enum-told c = search needs
 
 returns : tie.Need-returns
-returns c =
-    let a = c .before .before .before .before .before .before .args in
-    write-unknown (a .method) (a .exercised) (a .draw) (a .accounts .now) (a .shorts .now) (a .text .now) (a .written .now) (sym (ap namedMeans (c .enum-told .given .1)) ∙ c .before .before .method-by .ensures)
+returns c = let a = c .before .before .before .before .before .before .args in
+    write-unknown (a .method) (a .exercised) (a .draw) (a .accounts .now) (a .shorts .now) (sym (ap namedMeans (c .enum-told .given .1)) ∙ c .before .before .method-by .ensures) (a .text .now) (a .written .now)
+
+terms-of-requires : tie.Need-terms-of-requires
+terms-of-requires c κs = search needs
 
 write-requires : tie.Need-write-requires
 write-requires c κs = search needs
@@ -36,21 +39,17 @@ same-length : tie.Need-same-length
 same-length c = search needs
 
 returns-2 : tie.Need-returns-2
-returns-2 c =
-    let a = c .before .before .before .before .before .before .before .before .before .before .before .before .before .before .args in
-    let call = c .before .before .before .before .before .write in
-    let told = write-known (a .method) (a .exercised) (a .draw) (a .accounts .now) (a .shorts .now) (a .text .now) (a .written .now) _ _ (call .last .1 .1 .1 .1 .1 .0) (sym (ap namedMeans (c .before .before .before .before .before .before .before .before .named .given .1)) ∙ c .before .before .before .before .before .before .before .before .before .before .method-by .ensures) (sym (ap writingOf (c .before .n .given .1)) ∙ call .ensures .0) (call .ensures .1) in
-    told
+returns-2 c = let a = c .before .before .before .before .before .before .before .before .before .before .before .before .before .before .before .args in
+    let write = c .before .before .before .before .before .write in
+    write-known (a .method) (a .exercised) (a .draw) (a .accounts .now) (a .shorts .now) _ (sym (ap namedMeans (c .before .before .before .before .before .before .before .before .before .named .given .1)) ∙ c .before .before .before .before .before .before .before .before .before .before .before .method-by .ensures) _ (c .before .before .before .before .before .before .before .terms-of .ensures) _ (a .text .now) _ (a .written .now) (sym (ap writingOf (c .before .n .given .1)) ∙ write .ensures .0) (write .ensures .1)
 
 same-length-2 : tie.Need-same-length-2
 same-length-2 c = search needs
 
 returns-3 : tie.Need-returns-3
-returns-3 c =
-    let a = c .before .before .before .before .before .before .before .before .before .before .before .before .before .before .before .args in
-    let call = c .before .before .before .before .before .before .write in
-    let told = write-known (a .method) (a .exercised) (a .draw) (a .accounts .now) (a .shorts .now) (a .text .now) (a .written .now) _ _ (call .last .1 .1 .1 .1 .1 .0) (sym (ap namedMeans (c .before .before .before .before .before .before .before .before .before .named .given .1)) ∙ c .before .before .before .before .before .before .before .before .before .before .before .method-by .ensures) (sym (ap writingOf (c .before .before .refusal .given .1)) ∙ call .ensures .0) (call .ensures .1) in
-    (c .number .ensures ∙ told .0, told .1)
+returns-3 c = let a = c .before .before .before .before .before .before .before .before .before .before .before .before .before .before .before .before .args in
+    let write = c .before .before .before .before .before .before .write in
+    rw (c .number .ensures) (write-known (a .method) (a .exercised) (a .draw) (a .accounts .now) (a .shorts .now) _ (sym (ap namedMeans (c .before .before .before .before .before .before .before .before .before .before .named .given .1)) ∙ c .before .before .before .before .before .before .before .before .before .before .before .before .method-by .ensures) _ (c .before .before .before .before .before .before .before .before .terms-of .ensures) _ (a .text .now) _ (a .written .now) (sym (ap writingOf (c .before .before .refusal .given .1)) ∙ write .ensures .0) (write .ensures .1))
 
 pub dilbreth-write-spec : {M : Type 1} → statement M
 dilbreth-write-spec =
@@ -60,6 +59,7 @@ dilbreth-write-spec =
     enum-known-named
     enum-told
     returns
+    terms-of-requires
     write-requires
     enum-known-n
     enum-known-refusal

@@ -1,5 +1,5 @@
 -- `copy_first` meets its contract. The loop's invariant: the first `i` elements are copied.
--- Assumes nothing.
+--
 use Prim.Native.Nat.{_≤_, _-_}
 use mathlib.Core.Path.{_≡_}
 use native.Mathlib.Omega.{arith}

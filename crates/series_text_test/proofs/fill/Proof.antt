@@ -1,4 +1,4 @@
--- `fill` is safe and ends. Assumes nothing.
+-- `fill` is safe and ends.
 use Prim.Native.Nat.{_-_}
 use mathlib.Core.Path.{_≡_, refl, _∙_}
 use native.Mathlib.Omega.{arith}

@@ -1,4 +1,4 @@
--- `print_list` is safe and ends. Assumes nothing.
+-- `print_list` is safe and ends.
 use Prim.Native.Nat.{_-_, _≤_}
 use native.Mathlib.Omega.{arith}
 use lib.ListN.{length}

@@ -1,4 +1,4 @@
--- `rewrite_first` is safe and ends. Assumes nothing.
+-- `rewrite_first` is safe and ends.
 use mathlib.Core.Path.{sym}
 use native.Mathlib.Omega.{arith}
 use lib.Seq.{length-take-le}

@@ -1,10 +1,11 @@
+-- `copy` meets its contract. The invariant: the amounts passed are the positions' shorts, the others stand. The measure is what is left of the list.
 use borrow.Author.Needs.{needs}
-use Prim.Native.Nat.{ℕ, _+_, _-_, _≤_, _<_}
+use Prim.Native.Nat.{_-_, _≤_}
 use mathlib.Core.Path.{_≡_, refl, sym, ap, _∙_}
 use native.Mathlib.Omega.{arith}
 use lib.ListN.{length, getD}
 use Rattle.series.specs.Sums.{listed}
-use Rattle.allocation.proofs.ListLaws.{filled, fill-none, fill-more, fill-length, fill-all, listed-own}
+use Rattle.series.proofs.ListLaws.{filled, fill-none, fill-more, fill-length, fill-all, listed-elements}
 use Rattle.allocation.proofs.lists.copy.Statement.{statement}
 use Rattle.allocation.proofs.lists.copy.Tie as tie
 
@@ -57,7 +58,7 @@ returns c =
     let seen = c .before in
     let a = seen .before .args in
     let end : seen .loop .i ≡ length (a .shorts .now) = omega arith in
-    seen .loop .inv .1 ∙ fill-all (λ j. getD (a .shorts .now) j 0) (a .amounts .now) (seen .loop .i) (omega (arith, seen .before .pre)) ∙ ap (listed (λ j. getD (a .shorts .now) j 0)) end ∙ sym (listed-own (λ j. getD (a .shorts .now) j 0) (a .shorts .now) (λ j h. refl))
+    seen .loop .inv .1 ∙ fill-all (λ j. getD (a .shorts .now) j 0) (a .amounts .now) (seen .loop .i) (omega (arith, seen .before .pre)) ∙ ap (listed (λ j. getD (a .shorts .now) j 0)) end ∙ sym (listed-elements (λ j. getD (a .shorts .now) j 0) (a .shorts .now) (λ j h. refl))
 
 pub copy-spec : {M : Type 1} → statement M
 copy-spec =

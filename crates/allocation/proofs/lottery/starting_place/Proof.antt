@@ -1,3 +1,4 @@
+-- `starting_place` meets its contract: the product fits 64 bits, and the place fits 32.
 use borrow.Author.Needs.{needs}
 use mathlib.Core.Path.{refl}
 use native.Mathlib.Omega.{arith}

@@ -1,6 +1,10 @@
+-- `assign_round` meets its contract: a walk over the part that the cursor stands in and, past the end of the list, one over the part from the top.
 use borrow.Author.Needs.{needs}
 use Prim.Native.Nat.{_+_}
+use mathlib.Core.Path.{sym}
 use native.Mathlib.Omega.{arith}
+use lib.Seq.{length-take-le}
+use Rattle.allocation.proofs.PartLaws.{room-top}
 use Rattle.allocation.proofs.RunLaws.{part-first, room-part, run-room, run-part, run-top}
 use Rattle.allocation.proofs.places.assign_round.Statement.{statement}
 use Rattle.allocation.proofs.places.assign_round.Tie as tie
@@ -31,44 +35,50 @@ part-hand-end-2 c = search needs
 
 hand-requires : tie.Need-hand-requires
 hand-requires c κs =
-    let start = c .before .before .before .before .before in
-    let a = start .args in
-    let on = start .pre .1 .0 in
-    (room-part (a .shorts .now) (a .amounts .now) (a .cursor .at) (start .pre .0) (omega (arith, on .position)), part-first (a .shorts .now) (a .cursor .at) (a .cursor .passed .0) on)
+    let asked = c .before .before .before .before .before .pre in
+    (room-part _ _ _ (asked .small) (omega (arith, asked .ahead .on .position)), part-first _ _ (asked .ahead .on))
 
 sub-if1 : tie.Need-sub-if1
 sub-if1 c = search needs
 
-add-t24 : tie.Need-add-t24
-add-t24 c = search needs
+add-t25 : tie.Need-add-t25
+add-t25 c = search needs
 
 same-length : tie.Need-same-length
 same-length c = search needs
 
 returns : tie.Need-returns
-returns c =
-    let start = c .before .before .before .before .before .before .before .before .before .before in
-    let a = start .args in
-    let stop = c .before .before .before .before .hand in
-    run-part (a .shorts .now) (a .amounts .now) (stop .last .1 .0) (a .cursor .at) (a .cursor .passed .0) (a .count .0) (stop .result .at) (stop .result .passed .0) (stop .result .left .0) (start .pre .0) (start .pre .1 .0) (start .pre .1 .1) (stop .ensures .0) (stop .ensures .1) (c .before .if1 .taken)
+returns c = let stop = c .before .before .before .before .hand in run-part _ _ _ _ _ _ (c .before .before .before .before .before .before .before .before .before .before .pre) (stop .ensures .0) (stop .ensures .1) (c .before .if1 .taken)
+
+add-end : tie.Need-add-end
+add-end c = search needs
+
+slice-aggregate-hand : tie.Need-slice-aggregate-hand
+slice-aggregate-hand c = sym (length-take-le _ _ (omega (arith, c .before .before .before .before .before .before .before .before .before .before .before .pre .ahead .on .position)))
+
+slice-relend-prefix-hand : tie.Need-slice-relend-prefix-hand
+slice-relend-prefix-hand c = search needs
+
+slice-aggregate-hand-2 : tie.Need-slice-aggregate-hand-2
+slice-aggregate-hand-2 c =
+    let asked = c .before .before .before .before .before .before .before .before .before .before .before .before .pre in
+    let stop = c .before .before .before .before .before .before .hand in
+    sym (length-take-le _ _ (omega (arith, asked .ahead .on .position, run-room _ _ _ _ _ _ asked (stop .ensures .0) (stop .ensures .1) .lengths)))
 
 hand-requires-2 : tie.Need-hand-requires-2
 hand-requires-2 c κs =
-    let start = c .before .before .before .before .before .before .before .before .before .before .before in
-    let a = start .args in
-    let stop = c .before .before .before .before .before .hand in
-    (run-room (a .shorts .now) (a .amounts .now) (stop .last .1 .0) (a .cursor .at) (a .cursor .passed .0) (a .count .0) (stop .result .at) (stop .result .passed .0) (stop .result .left .0) (start .pre .0) (start .pre .1 .0) (start .pre .1 .1) (stop .ensures .0) (stop .ensures .1), search needs)
+    let start = c .before .before .before .before .before .before .before .before .before .before .before .before in
+    let stop = c .before .before .before .before .before .before .hand in
+    (room-top _ _ (start .args .cursor .at + 1) (run-room _ _ _ _ _ _ (start .pre) (stop .ensures .0) (stop .ensures .1)), search needs)
 
 same-length-2 : tie.Need-same-length-2
 same-length-2 c = search needs
 
 returns-2 : tie.Need-returns-2
 returns-2 c =
-    let start = c .before .before .before .before .before .before .before .before .before .before .before .before .before .before .before in
-    let a = start .args in
-    let stop = c .before .before .before .before .before .before .before .before .before .hand in
+    let stop = c .before .before .before .before .before .before .before .before .before .before .hand in
     let top = c .before .before .before .hand2 in
-    run-top (a .shorts .now) (a .amounts .now) (stop .last .1 .0) (a .cursor .at) (a .cursor .passed .0) (a .count .0) (stop .result .at) (stop .result .passed .0) (stop .result .left .0) (start .pre .0) (start .pre .1 .0) (start .pre .1 .1) (stop .ensures .0) (stop .ensures .1) (c .before .before .before .before .before .before .if1 .left) (top .last .1 .0) (top .result .at) (top .result .passed .0) (top .result .left .0) (top .ensures .0) (top .ensures .1)
+    run-top _ _ _ _ _ _ (c .before .before .before .before .before .before .before .before .before .before .before .before .before .before .before .before .pre) (stop .ensures .0) (stop .ensures .1) (c .before .before .before .before .before .before .before .if1 .left) _ _ (top .ensures .0) (top .ensures .1)
 
 pub assign-round-spec : {M : Type 1} → statement M
 assign-round-spec =
@@ -84,9 +94,13 @@ assign-round-spec =
     part-hand-end-2
     hand-requires
     sub-if1
-    add-t24
+    add-t25
     same-length
     returns
+    add-end
+    slice-aggregate-hand
+    slice-relend-prefix-hand
+    slice-aggregate-hand-2
     hand-requires-2
     same-length-2
     returns-2)

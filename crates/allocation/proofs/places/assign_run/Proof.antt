@@ -1,7 +1,8 @@
+-- `assign_run` meets its contract: a run that ends in the position it begins in, or a round.
 use borrow.Author.Needs.{needs}
 use native.Mathlib.Omega.{arith}
 use Rattle.series.proofs.SumLaws.{total-term}
-use Rattle.allocation.proofs.RunLaws.{stands-own, assigned-own}
+use Rattle.allocation.proofs.RunLaws.{stands-here, assigned-here}
 use Rattle.allocation.proofs.places.assign_run.Statement.{statement}
 use Rattle.allocation.proofs.places.assign_run.Tie as tie
 
@@ -23,9 +24,8 @@ slice-read-amounts c = search needs
 add-amounts : tie.Need-add-amounts
 add-amounts c =
     let start = c .before .before .before .before .before .before .before .before .before in
-    let a = start .args in
-    let on = start .pre .1 .0 in
-    omega (arith, c .before .before .if1 .taken, start .pre .0 .amounts (a .cursor .at) (on .position), start .pre .0 .list, total-term (a .shorts .now) (a .cursor .at) (on .position))
+    let on = start .pre .ahead .on in
+    omega (arith, c .before .before .if1 .taken, start .pre .small .amounts (start .args .cursor .at) (on .position), start .pre .small .list, total-term (start .args .shorts .now) (start .args .cursor .at) (on .position))
 
 slice-write-amounts : tie.Need-slice-write-amounts
 slice-write-amounts c = search needs
@@ -33,20 +33,17 @@ slice-write-amounts c = search needs
 add-t14 : tie.Need-add-t14
 add-t14 c =
     let start = c .before .before .before .before .before .before .before .before .before .before .before in
-    let a = start .args in
-    let on = start .pre .1 .0 in
-    omega (arith, c .before .before .before .before .if1 .taken, on .contract, start .pre .0 .list, total-term (a .shorts .now) (a .cursor .at) (on .position))
+    let on = start .pre .ahead .on in
+    omega (arith, c .before .before .before .before .if1 .taken, on .contract, start .pre .small .list, total-term (start .args .shorts .now) (start .args .cursor .at) (on .position))
 
 same-length : tie.Need-same-length
 same-length c = search needs
 
 returns : tie.Need-returns
 returns c =
-    let start = c .before .before .before .before .before .before .before .before .before .before .before in
-    let a = start .args in
-    let on = start .pre .1 .0 in
+    let asked = c .before .before .before .before .before .before .before .before .before .before .before .pre in
     let inside = c .before .before .before .before .if1 .taken in
-    (stands-own (a .shorts .now) (a .cursor .at) (a .cursor .passed .0) (a .count .0) on inside, assigned-own (a .shorts .now) (a .cursor .at) (a .cursor .passed .0) (a .count .0) on inside (a .amounts .now) (start .pre .0) (start .pre .1 .1))
+    (stands-here _ _ _ (asked .ahead .on) inside, assigned-here _ _ _ (asked .ahead .on) inside _ (asked .small) (asked .ahead .most))
 
 assign-round-requires : tie.Need-assign-round-requires
 assign-round-requires c κs = search needs

@@ -1,9 +1,9 @@
+-- `hand` meets its contract. The invariant: the walk has come to position `at`, and the amounts before it have grown. The measure is what is left of the list.
 use borrow.Author.Needs.{needs}
-use Prim.Native.Nat.{ℕ, _+_, _-_, _≤_, _<_}
-use mathlib.Core.Path.{_∙_}
+use Prim.Native.Nat.{_+_, _-_, _≤_, _<_}
 use native.Mathlib.Nat.{le-refl}
 use native.Mathlib.Omega.{arith}
-use lib.ListN.{length, getD, set, length-set}
+use lib.ListN.{length, length-set}
 use Rattle.allocation.proofs.StretchLaws.{Walk, walk-start, walk-next, walk-inside, walk-past, Growing, growing-start, growing-next, grown-inside, grown-past}
 use Rattle.allocation.proofs.places.hand.Statement.{statement}
 use Rattle.allocation.proofs.places.hand.Tie as tie
@@ -16,9 +16,7 @@ abbrev μ-loop : tie.MeasureT-loop
 μ-loop shorts amounts₀ at₀ skipped₀ left₀ amounts i skipped left = length shorts - i
 
 loop-holds : tie.Need-loop-holds Inv-loop μ-loop
-loop-holds c =
-    let a = c .args in
-    (walk-start (a .shorts .now) (a .passed .0) (a .count .0) (c .pre .1), le-refl (a .count .0), growing-start (a .shorts .now) (a .amounts .now) (a .passed .0) (a .passed .0 + a .count .0))
+loop-holds c = (walk-start _ _ _ (c .pre .1), le-refl _, growing-start _ _ _ _)
 
 mul-free : tie.Need-mul-free Inv-loop μ-loop
 mul-free c = search needs
@@ -56,10 +54,10 @@ same-length c = simp length-set (c .before .before .before .before .loop .inv .2
 returns : tie.Need-returns Inv-loop μ-loop
 returns c =
     let seen = c .before .before .before .before in
-    let a = seen .before .args in
+    let inv = seen .loop .inv in
     let h = c .before .before .before .loop-test .taken in
-    let o : seen .loop .at < length (seen .loop .amounts) = omega (arith, seen .before .pre .0 .lengths, seen .loop .inv .2 .same-length) in
-    (walk-inside (a .shorts .now) (a .passed .0) (a .passed .0 + a .count .0) (seen .loop .at) (seen .loop .skipped) (seen .loop .left) (seen .loop .inv .0) h (c .before .if1 .taken), grown-inside (a .shorts .now) (a .amounts .now) (seen .loop .amounts) (a .passed .0) (a .passed .0 + a .count .0) (seen .loop .at) (seen .loop .skipped) (seen .loop .left) (seen .loop .inv .0) (seen .loop .inv .2) h o (c .before .if1 .taken))
+    let o : seen .loop .at < length (seen .loop .amounts) = omega (arith, seen .before .pre .0 .lengths, inv .2 .same-length) in
+    (walk-inside _ _ _ _ _ _ (inv .0) h (c .before .if1 .taken), grown-inside _ _ _ _ _ _ _ _ (inv .0) (inv .2) h o (c .before .if1 .taken))
 
 mul-amounts-2 : tie.Need-mul-amounts-2 Inv-loop μ-loop
 mul-amounts-2 c = search needs
@@ -88,19 +86,17 @@ loop-less c = search needs
 loop-again : tie.Need-loop-again Inv-loop μ-loop
 loop-again c =
     let seen = c .before .before .before .before in
-    let a = seen .before .args in
+    let inv = seen .loop .inv in
     let h = c .before .before .before .loop-test .taken in
-    let o : seen .loop .at < length (seen .loop .amounts) = omega (arith, seen .before .pre .0 .lengths, seen .loop .inv .2 .same-length) in
-    (walk-next (a .shorts .now) (a .passed .0) (a .passed .0 + a .count .0) (seen .loop .at) (seen .loop .skipped) (seen .loop .left) (seen .loop .inv .0) h (c .before .if1 .left), omega arith, growing-next (a .shorts .now) (a .amounts .now) (seen .loop .amounts) (a .passed .0) (a .passed .0 + a .count .0) (seen .loop .at) (seen .loop .skipped) (seen .loop .left) (seen .loop .inv .0) (seen .loop .inv .2) h o (c .before .if1 .left))
+    let o : seen .loop .at < length (seen .loop .amounts) = omega (arith, seen .before .pre .0 .lengths, inv .2 .same-length) in
+    (walk-next _ _ _ _ _ _ (inv .0) h (c .before .if1 .left), omega arith, growing-next _ _ _ _ _ _ _ _ (inv .0) (inv .2) h o (c .before .if1 .left))
 
 same-length-2 : tie.Need-same-length-2 Inv-loop μ-loop
 same-length-2 c = c .before .loop .inv .2 .same-length
 
 returns-2 : tie.Need-returns-2 Inv-loop μ-loop
 returns-2 c =
-    let seen = c .before in
-    let a = seen .before .args in
-    (walk-past (a .shorts .now) (a .passed .0) (a .passed .0 + a .count .0) (seen .loop .at) (seen .loop .skipped) (seen .loop .left) (seen .loop .inv .0) (c .loop-test .left), grown-past (a .shorts .now) (a .amounts .now) (seen .loop .amounts) (a .passed .0) (a .passed .0 + a .count .0) (seen .loop .at) (seen .loop .inv .2) (c .loop-test .left))
+    let inv = c .before .loop .inv in (walk-past _ _ _ _ _ _ (inv .0) (c .loop-test .left), grown-past _ _ _ _ _ _ (inv .2) (c .loop-test .left))
 
 pub hand-spec : {M : Type 1} → statement M
 hand-spec =

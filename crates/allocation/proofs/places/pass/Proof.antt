@@ -1,9 +1,10 @@
+-- `pass` meets its contract. The invariant: the walk has come to position `at`. The measure is what is left of the list.
 use borrow.Author.Needs.{needs}
-use Prim.Native.Nat.{ℕ, _+_, _-_, _≤_}
+use Prim.Native.Nat.{_+_, _-_, _≤_}
 use native.Mathlib.Nat.{le-refl}
 use native.Mathlib.Omega.{arith}
-use lib.ListN.{length, length-set}
-use Rattle.allocation.proofs.StretchLaws.{Walk, walk-start, walk-next, walk-inside, walk-past}
+use lib.ListN.{length}
+use Rattle.allocation.proofs.StretchLaws.{Walk, walk-start, walk-next, walk-past}
 use Rattle.allocation.proofs.places.pass.Statement.{statement}
 use Rattle.allocation.proofs.places.pass.Tie as tie
 
@@ -14,7 +15,7 @@ abbrev μ-loop : tie.MeasureT-loop
 μ-loop shorts at₀ skipped₀ left₀ i skipped left = length shorts - i
 
 loop-holds : tie.Need-loop-holds Inv-loop μ-loop
-loop-holds c = (walk-start (c .args .shorts .now) (c .args .passed .0) (c .args .count .0) (c .pre), le-refl (c .args .count .0))
+loop-holds c = (walk-start _ _ _ (c .pre), le-refl _)
 
 mul-free : tie.Need-mul-free Inv-loop μ-loop
 mul-free c = search needs
@@ -39,16 +40,10 @@ loop-less c = search needs
 
 loop-again : tie.Need-loop-again Inv-loop μ-loop
 loop-again c =
-    let seen = c .before .before .before in
-    let inv = seen .loop .inv in (
-      walk-next (seen .before .args .shorts .now) (seen .before .args .passed .0) (seen .before .args .passed .0 + seen .before .args .count .0) (seen .loop .at) (seen .loop .skipped) (seen .loop .left) (inv .0) (c .before .before .loop-test .taken) (c .if1 .left),
-      omega arith,
-    )
+    let inv = c .before .before .before .loop .inv in (walk-next _ _ _ _ _ _ (inv .0) (c .before .before .loop-test .taken) (c .if1 .left), omega arith)
 
 returns-2 : tie.Need-returns-2 Inv-loop μ-loop
-returns-2 c =
-    let seen = c .before in
-    walk-past (seen .before .args .shorts .now) (seen .before .args .passed .0) (seen .before .args .passed .0 + seen .before .args .count .0) (seen .loop .at) (seen .loop .skipped) (seen .loop .left) (seen .loop .inv .0) (c .loop-test .left)
+returns-2 c = walk-past _ _ _ _ _ _ (c .before .loop .inv .0) (c .loop-test .left)
 
 pub pass-spec : {M : Type 1} → statement M
 pass-spec =

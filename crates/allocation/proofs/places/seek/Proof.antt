@@ -1,3 +1,4 @@
+-- `seek` meets its contract: the contracts before the place are passed from the top.
 use borrow.Author.Needs.{needs}
 use Rattle.allocation.proofs.RunLaws.{stands-first}
 use Rattle.allocation.proofs.places.seek.Statement.{statement}
@@ -10,10 +11,7 @@ pass-requires : tie.Need-pass-requires
 pass-requires c κs = search needs
 
 returns : tie.Need-returns
-returns c =
-    let start = c .before .before .before .before in
-    let stop = c .before .pass in
-    stands-first (start .args .shorts .now) (start .args .place .0) (stop .result .at) (stop .result .passed .0) (stop .result .left .0) (start .pre) (stop .ensures)
+returns c = stands-first _ _ _ (c .before .before .before .before .pre) (c .before .pass .ensures)
 
 pub seek-spec : {M : Type 1} → statement M
 seek-spec = tie.close (tie.spec sub-t6 pass-requires returns)

@@ -1,6 +1,7 @@
+-- `skip_run` meets its contract: a run that ends in the position it begins in, or a round.
 use borrow.Author.Needs.{needs}
 use native.Mathlib.Omega.{arith}
-use Rattle.allocation.proofs.RunLaws.{stands-own}
+use Rattle.allocation.proofs.RunLaws.{stands-here}
 use Rattle.allocation.proofs.places.skip_run.Statement.{statement}
 use Rattle.allocation.proofs.places.skip_run.Tie as tie
 
@@ -17,10 +18,7 @@ add-t11 : tie.Need-add-t11
 add-t11 c = omega (arith, c .before .before .if1 .taken, c .before .before .before .before .before .shared-slice-known2 .given (c .before .before .before .before .before .before .before .before .args .cursor .at))
 
 returns : tie.Need-returns
-returns c =
-    let start = c .before .before .before .before .before .before .before .before in
-    let a = start .args in
-    stands-own (a .shorts .now) (a .cursor .at) (a .cursor .passed .0) (a .count .0) (start .pre .0) (c .before .before .if1 .taken)
+returns c = stands-here _ _ _ (c .before .before .before .before .before .before .before .before .pre .on) (c .before .before .if1 .taken)
 
 skip-round-requires : tie.Need-skip-round-requires
 skip-round-requires c κs = search needs

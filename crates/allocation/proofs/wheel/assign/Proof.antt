@@ -1,12 +1,9 @@
+-- `wheel::assign` meets its contract: every position whole where S equals T, and else the blocks from the starting place.
 use borrow.Author.Needs.{needs}
-use Prim.Native.Nat.{_<_}
-use mathlib.Core.Path.{_≡_, refl, sym, ap, _∙_}
+use mathlib.Core.Path.{sym, _∙_}
 use native.Mathlib.Omega.{arith}
-use Rattle.series.specs.Places.{total}
-use Rattle.series.specs.Wheel.{blocksUsed}
-use Rattle.allocation.specs.Millionths.{millionths}
 use Rattle.series.proofs.WheelLaws.{wheel-whole}
-use Rattle.allocation.proofs.TurnLaws.{whole-blocks, turn-ready, turn-done, used-whole, used-part}
+use Rattle.allocation.proofs.BlockLaws.{whole-blocks, blocks-fit, blocks-give, used-whole, used-part}
 use Rattle.allocation.proofs.wheel.assign.Statement.{statement}
 use Rattle.allocation.proofs.wheel.assign.Tie as tie
 
@@ -19,10 +16,9 @@ same-length c = search needs
 returns : tie.Need-returns
 returns c =
     let start = c .before .before .before .before .before .before .before .before .before in
-    let a = start .args in
     let same = c .before .before .before .before .if1 .taken in (
-      used-whole (a .increment .0) (a .total .0) (a .exercised .0) same,
-      c .before .before .copy .ensures ∙ sym (wheel-whole (a .increment .0) (a .shorts .now) (a .exercised .0) (a .start .0) (same ∙ start .pre .1 .0)),
+      used-whole _ _ _ same,
+      c .before .before .copy .ensures ∙ sym (wheel-whole _ _ _ _ (same ∙ start .pre .sum)),
     )
 
 clear-requires : tie.Need-clear-requires
@@ -39,34 +35,29 @@ seek-requires c κs = search needs
 
 interval-requires : tie.Need-interval-requires
 interval-requires c κs =
-    let start = c .before .before .before .before .before .before .before .before .before .before .before .before in
-    let a = start .args in
-    (omega (arith, start .pre .0 .list, start .pre .1 .0), whole-blocks (a .increment .0) (a .exercised .0) (c .before .before .block-count .result) (start .pre .1 .1 .1 .0) (c .before .before .block-count .ensures) .0)
+    let call = c .before .before .before .before .before .before .before .before .before .before .before .before .pre in
+    (omega (arith, call .sized .list, call .sum), whole-blocks _ _ _ (call .increment) (c .before .before .block-count .ensures) .0)
 
 zero-requires : tie.Need-zero-requires
 zero-requires c κs = search needs
 
-turn-requires : tie.Need-turn-requires
-turn-requires c κs =
-    let start = c .before .before .before .before .before .before .before .before .before .before .before .before .before .before .before in
-    let a = start .args in
-    let hs = a .shorts .now in
-    let differ = c .before .before .before .before .before .before .before .before .before .before .if1 .left in
-    let less : a .exercised .0 < total hs = omega (arith, start .pre .1 .0, start .pre .1 .1 .0, differ) in
-    (c .before .before .interval .ensures .1, turn-ready hs (a .amounts .now) (c .before .before .before .before .before .before .before .before .clear .last .0) (a .increment .0) (a .exercised .0) (a .start .0) (c .before .before .before .seek .result .at) (c .before .before .before .seek .result .passed .0) (a .total .0) (millionths (c .before .before .interval .result)) (millionths (c .before .zero .result)) (c .before .before .before .before .before .block-count .result) (c .before .before .before .before .last-block .result .0) (start .pre .0) (start .pre .1 .1 .1 .0) (c .before .before .before .seek .ensures) (start .pre .1 .0) less (c .before .before .before .before .before .before .before .before .clear .ensures) (c .before .before .before .before .before .block-count .ensures) (c .before .before .before .before .last-block .ensures) (c .before .before .interval .ensures .0) (c .before .zero .ensures))
+assign-blocks-requires : tie.Need-assign-blocks-requires
+assign-blocks-requires c κs =
+    let call = c .before .before .before .before .before .before .before .before .before .before .before .before .before .before .before .pre in
+    let interval = c .before .before .interval .ensures in
+    blocks-fit _ _ _ _ _ _ _ _ _ _ call (omega (arith, call .most, c .before .before .before .before .before .before .before .before .before .before .if1 .left)) (c .before .before .before .seek .ensures) (c .before .before .before .before .before .before .before .before .clear .ensures) (c .before .before .before .before .before .block-count .ensures) (c .before .before .before .before .last-block .ensures) (interval .0) (interval .1) (c .before .zero .ensures)
 
 same-length-2 : tie.Need-same-length-2
 same-length-2 c = search needs
 
 returns-2 : tie.Need-returns-2
 returns-2 c =
-    let start = c .before .before .before .before .before .before .before .before .before .before .before .before .before .before .before .before .before .before in
-    let a = start .args in
-    let hs = a .shorts .now in
+    let call = c .before .before .before .before .before .before .before .before .before .before .before .before .before .before .before .before .before .before .pre in
     let differ = c .before .before .before .before .before .before .before .before .before .before .before .before .before .if1 .left in
-    let less : a .exercised .0 < total hs = omega (arith, start .pre .1 .0, start .pre .1 .1 .0, differ) in (
-      c .before .before .before .before .before .before .before .before .block-count .ensures ∙ used-part (a .increment .0) (a .total .0) (a .exercised .0) (omega (arith, start .pre .1 .0)),
-      turn-done hs (a .amounts .now) (c .before .before .before .before .before .before .before .before .before .before .before .clear .last .0) (a .increment .0) (a .exercised .0) (a .start .0) (c .before .before .before .before .before .before .seek .result .at) (c .before .before .before .before .before .before .seek .result .passed .0) (a .total .0) (millionths (c .before .before .before .before .before .interval .result)) (millionths (c .before .before .before .before .zero .result)) (c .before .before .before .before .before .before .before .before .block-count .result) (c .before .before .before .before .before .before .before .last-block .result .0) (start .pre .0) (start .pre .1 .1 .1 .0) (c .before .before .before .before .before .before .seek .ensures) (start .pre .1 .0) less (c .before .before .before .before .before .before .before .before .before .before .before .clear .ensures) (c .before .before .before .before .before .before .before .before .block-count .ensures) (c .before .before .before .before .before .before .before .last-block .ensures) (c .before .before .before .before .before .interval .ensures .0) (c .before .before .before .before .zero .ensures) (c .before .before .turn .last .1 .0) (c .before .before .turn .ensures),
+    let count = c .before .before .before .before .before .before .before .before .block-count .ensures in
+    let interval = c .before .before .before .before .before .interval .ensures in (
+      count ∙ used-part _ _ _ (omega (arith, call .most)),
+      blocks-give _ _ _ _ _ _ _ _ _ _ call (omega (arith, call .most)) (c .before .before .before .before .before .before .seek .ensures) (c .before .before .before .before .before .before .before .before .before .before .before .clear .ensures) count (c .before .before .before .before .before .before .before .last-block .ensures) (interval .0) (interval .1) (c .before .before .before .before .zero .ensures) _ (c .before .before .assign-blocks .ensures),
     )
 
 pub assign-spec : {M : Type 1} → statement M
@@ -82,6 +73,6 @@ assign-spec =
     seek-requires
     interval-requires
     zero-requires
-    turn-requires
+    assign-blocks-requires
     same-length-2
     returns-2)

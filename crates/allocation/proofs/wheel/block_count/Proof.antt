@@ -1,3 +1,4 @@
+-- `block_count` meets its contract: nothing overflows, and the quotient is the definition's.
 use borrow.Author.Needs.{needs}
 use mathlib.Core.Path.{refl}
 use Rattle.series.specs.Wheel.{blocks}

@@ -1,17 +1,18 @@
+-- `last_block` meets its contract: the whole blocks before it have fewer than S contracts.
 use borrow.Author.Needs.{needs}
 use native.Mathlib.Omega.{arith}
-use Rattle.allocation.proofs.TurnLaws.{whole-blocks}
+use Rattle.allocation.proofs.BlockLaws.{whole-blocks}
 use Rattle.allocation.proofs.wheel.last_block.Statement.{statement}
 use Rattle.allocation.proofs.wheel.last_block.Tie as tie
 
 sub-t4 : tie.Need-sub-t4
-sub-t4 c = whole-blocks (c .args .increment .0) (c .args .exercised .0) (c .args .blocks) (c .pre .0) (c .pre .1) .0
+sub-t4 c = whole-blocks _ _ _ (c .pre .0) (c .pre .1) .0
 
 mul-t5 : tie.Need-mul-t5
-mul-t5 c = omega (arith, whole-blocks (c .before .args .increment .0) (c .before .args .exercised .0) (c .before .args .blocks) (c .before .pre .0) (c .before .pre .1) .1, c .before .pre .0 .exercised-most)
+mul-t5 c = omega (arith, whole-blocks _ _ _ (c .before .pre .0) (c .before .pre .1) .1, c .before .pre .0 .exercised-most)
 
 sub-t6 : tie.Need-sub-t6
-sub-t6 c = omega (arith, whole-blocks (c .before .before .args .increment .0) (c .before .before .args .exercised .0) (c .before .before .args .blocks) (c .before .before .pre .0) (c .before .before .pre .1) .1)
+sub-t6 c = omega (arith, whole-blocks _ _ _ (c .before .before .pre .0) (c .before .before .pre .1) .1)
 
 returns : tie.Need-returns
 returns c = search needs

@@ -1,12 +1,12 @@
 -- `field::find_end` meets its contract. The loop's invariant: the bytes passed belong to the field, and the field goes on at the cursor.
--- Assumes nothing.
+--
 use Prim.Native.Nat.{_≤_, _-_}
 use mathlib.Core.Path.{_≡_, sym, ap, _∙_}
 use mathlib.Core.Bool.{true}
 use native.Mathlib.Omega.{arith}
 use lib.ListN.{length}
 use borrow.Author.Tests.{ne-eqb}
-use Rattle.series_text.specs.Text.{ends}
+use Rattle.series_text.specs.Fields.{ends}
 use Rattle.series_text.proofs.FieldLaws.{ReadTo, read-start, read-more, read-end, read-other, read-none}
 use Rattle.series_text.proofs.field.find_end.Statement.{statement}
 use Rattle.series_text.proofs.field.find_end.Tie as tie

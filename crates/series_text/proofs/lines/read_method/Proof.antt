@@ -1,4 +1,4 @@
--- `lines::read_method` meets its contract. Assumes nothing.
+-- `lines::read_method` meets its contract.
 use borrow.Author.Needs.{needs}
 use mathlib.Core.Path.{sym, _∙_}
 use native.Mathlib.Omega.{arith}
@@ -8,7 +8,7 @@ use Rattle.series_text.proofs.lines.read_method.Statement.{statement}
 use Rattle.series_text.proofs.lines.read_method.Tie as tie
 use Rattle.series_text.proofs.lines.read_method.Reads as reads
 use Rattle.series_text.proofs.lines.read_method.Lts as lts
-use Rattle.series_text.proofs.method_by.Reads as method-by-reads
+use Rattle.series_text.proofs.letters.method_by.Reads as method-by-reads
 
 -- src/lines.rt:54:17
 sub-bytes : tie.Need-sub-bytes

@@ -1,24 +1,36 @@
--- `lines::read_positions` meets its contract. The loop's invariant: the positions read stand first in the two lists, and the text goes on at the cursor.
--- Assumes nothing.
+-- `lines::read_positions` meets its contract. The loop's invariant: the rows read stand first in the two lists, and the text goes on at the cursor.
+--
 use Prim.Native.Nat.{_≤_, _-_}
 use mathlib.Core.Path.{_≡_, refl, sym, ap, _∙_}
+use mathlib.Core.List.{[], _∷_}
 use native.Mathlib.Omega.{arith}
 use borrow.Author.Needs.{needs}
-use lib.ListN.{length, length-set}
-use Rattle.series_text.specs.Text.{Position, MOST}
-use Rattle.series_text.specs.Parts.{rowMeans}
-use Rattle.series_text.proofs.LineLaws.{LinesTo, lines-start, lines-end, lines-over, lines-malformed, lines-more}
+use lib.ListN.{length, getD, take, drop, length-set}
+use Rattle.series.specs.Sums.{listed}
+use Rattle.series_text.specs.Rows.{rowsOf}
+use Rattle.series_text.specs.Text.{MOST_LINES}
+use Rattle.series_text.specs.Parts.{fieldsMean, fieldsThenNumbers}
+use Rattle.series_text.proofs.LineLaws.{RowsTo, rows-start, rows-end, rows-over, rows-malformed, rows-more}
+use Rattle.series_text.proofs.ColumnLaws.{rows-set}
 use Rattle.series_text.proofs.lines.read_positions.Statement.{statement}
 use Rattle.series_text.proofs.lines.read_positions.Tie as tie
 
 abbrev Inv-loop : tie.InvT-loop
-Inv-loop text from accounts₀ shorts₀ at₀ n₀ accounts shorts at n = (n ≤ MOST) × (length accounts ≡ length accounts₀) × (length shorts ≡ length shorts₀) × LinesTo MOST text from accounts shorts at n
+Inv-loop text from accounts₀ shorts₀ row₀ at₀ n₀ accounts shorts row at n =
+    (n ≤ MOST_LINES) × (length accounts ≡ length accounts₀) × (length shorts ≡ length shorts₀) × (length row ≡ 2)
+    × RowsTo MOST_LINES 2 text from (rowsOf (take n accounts ∷ take n shorts ∷ [])) at n
 
 abbrev μ-loop : tie.MeasureT-loop
-μ-loop text from accounts₀ shorts₀ at₀ n₀ accounts shorts at n = MOST - n
+μ-loop text from accounts₀ shorts₀ row₀ at₀ n₀ accounts shorts row at n = MOST_LINES - n
+
+-- what `read_row` answered of a row of two
+fields : (c : tie.After-read-row Inv-loop μ-loop) → let s = c .before .before .before .before .before .before .before .before .args .text .now in
+    fieldsMean s (c .read-row .last .1 .1 .0) (c .read-row .result) ≡ fieldsThenNumbers 2 (drop (c .before .before .before .before .loop .at) s)
+fields c = rw (c .before .before .before .before .loop .inv .3) at (c .read-row .ensures)
 
 loop-holds : tie.Need-loop-holds Inv-loop μ-loop
-loop-holds c = let a = c .before .before .before .args in (omega arith, refl, refl, lines-start MOST (a .text .now) (a .from) (a .accounts .now) (a .shorts .now))
+unfolding rowsOf listed
+loop-holds c = (omega arith, refl, refl, refl, rows-start)
 
 same-length : tie.Need-same-length Inv-loop μ-loop
 same-length c = omega arith
@@ -27,18 +39,16 @@ same-length-2 : tie.Need-same-length-2 Inv-loop μ-loop
 same-length-2 c = omega arith
 
 returns : tie.Need-returns Inv-loop μ-loop
-returns c = let a = c .before .before .before .before .before .before .args in
-    let l = c .before .before .loop in
-    (lines-over MOST (a .text .now) (a .from) (l .accounts) (l .shorts) (l .at) (l .n) (l .inv .3) (omega arith) (omega arith), tt)
+returns c = (rows-over (c .before .before .loop .inv .4) (omega arith) (omega arith), tt)
 
-read-position-requires : tie.Need-read-position-requires Inv-loop μ-loop
-read-position-requires c κs = tt
+slice-aggregate-read-row : tie.Need-slice-aggregate-read-row Inv-loop μ-loop
+slice-aggregate-read-row c = omega arith
 
-enum-known-account : tie.Need-enum-known-account Inv-loop μ-loop
-enum-known-account c = search needs
+read-row-requires : tie.Need-read-row-requires Inv-loop μ-loop
+read-row-requires c κs = search needs
 
-enum-told : tie.Need-enum-told Inv-loop μ-loop
-enum-told c = search needs
+enum-known-next : tie.Need-enum-known-next Inv-loop μ-loop
+enum-known-next c = search needs
 
 same-length-3 : tie.Need-same-length-3 Inv-loop μ-loop
 same-length-3 c = omega arith
@@ -47,18 +57,22 @@ same-length-4 : tie.Need-same-length-4 Inv-loop μ-loop
 same-length-4 c = omega arith
 
 returns-2 : tie.Need-returns-2 Inv-loop μ-loop
-returns-2 c = let a = c .before .before .before .before .before .before .before .before .before .args in
-    let l = c .before .before .before .before .before .loop in (
-      lines-malformed MOST (a .text .now) (a .from) (l .accounts) (l .shorts) (l .at) (l .n) (l .inv .3) (omega arith) (omega arith)
-          (ap (rowMeans (a .text .now)) (sym (c .enum-told .given .1)) ∙ c .before .before .read-position .ensures),
-      tt,
-    )
+returns-2 c = (
+  rows-malformed (c .before .before .before .before .before .before .loop .inv .4) (omega arith) (omega arith) _ _ (c .before .before .read-row .result) (c .match .keys2) (fields (c .before .before)),
+  tt,
+)
+
+array-read-accounts : tie.Need-array-read-accounts Inv-loop μ-loop
+array-read-accounts c = search needs
 
 mul-accounts : tie.Need-mul-accounts Inv-loop μ-loop
 mul-accounts c = omega arith
 
 slice-write-accounts : tie.Need-slice-write-accounts Inv-loop μ-loop
 slice-write-accounts c = omega arith
+
+array-read-shorts : tie.Need-array-read-shorts Inv-loop μ-loop
+array-read-shorts c = search needs
 
 mul-shorts : tie.Need-mul-shorts Inv-loop μ-loop
 mul-shorts c = omega arith
@@ -73,13 +87,16 @@ loop-less : tie.Need-loop-less Inv-loop μ-loop
 loop-less c = omega arith
 
 loop-again : tie.Need-loop-again Inv-loop μ-loop
-loop-again c = let a = c .before .before .before .before .before .before .before .before .before .before .args in
-    let l = c .before .before .before .before .before .before .loop in
-    let v = c .before .account .given .0 in
-    let p : Position = record { account = v .0; short = v .1 .0 } in
-    let x = lines-more MOST (a .text .now) (a .from) (l .accounts) (l .shorts) (l .at) (l .n) (l .inv .3) p (v .1 .1 .0) (omega arith) (omega arith) (omega arith) (omega arith)
-    (ap (rowMeans (a .text .now)) (sym (c .before .account .given .1)) ∙ c .before .before .before .read-position .ensures) in
-    (omega arith, length-set (l .accounts) (l .n) (v .0) ∙ l .inv .1, length-set (l .shorts) (l .n) (v .1 .0) ∙ l .inv .2, x)
+loop-again c = let l = c .before .before .before .before .before .before .before .before .loop in
+    let row = c .before .before .before .before .read-row .last .1 .1 .0 in
+    let two : length row ≡ 2 = omega (arith, c .before .before .before .before .read-row .kept .1 .1 .0) in
+    let more = rows-more (l .inv .4) (omega arith) (omega arith) {next = c .before .next .given .0 .0} (ap (fieldsMean _ _) (sym (c .before .next .given .1)) ∙ fields (c .before .before .before .before)) in (
+      omega arith,
+      length-set (l .accounts) (l .n) (getD row 0 0) ∙ l .inv .1,
+      length-set (l .shorts) (l .n) (getD row 1 0) ∙ l .inv .2,
+      two,
+      rw (rows-set (l .accounts) (l .shorts) (l .n) row (omega arith) (omega arith) two) more,
+    )
 
 same-length-5 : tie.Need-same-length-5 Inv-loop μ-loop
 same-length-5 c = omega arith
@@ -88,9 +105,7 @@ same-length-6 : tie.Need-same-length-6 Inv-loop μ-loop
 same-length-6 c = omega arith
 
 returns-3 : tie.Need-returns-3 Inv-loop μ-loop
-returns-3 c = let a = c .before .before .before .before .before .args in
-    let l = c .before .loop in
-    (lines-end MOST (a .text .now) (a .from) (l .accounts) (l .shorts) (l .at) (l .n) (l .inv .3) (omega arith), l .inv .0)
+returns-3 c = (rows-end (c .before .loop .inv .4) (omega arith), c .before .loop .inv .0)
 
 pub read-positions-spec : {M : Type 1} → statement M
 read-positions-spec =
@@ -102,14 +117,16 @@ read-positions-spec =
     same-length
     same-length-2
     returns
-    read-position-requires
-    enum-known-account
-    enum-told
+    slice-aggregate-read-row
+    read-row-requires
+    enum-known-next
     same-length-3
     same-length-4
     returns-2
+    array-read-accounts
     mul-accounts
     slice-write-accounts
+    array-read-shorts
     mul-shorts
     slice-write-shorts
     add-n

@@ -1,5 +1,5 @@
 -- `number::read_number` meets its contract. The loop's invariant: the bytes passed are digits of the field, and `n` is their number.
--- Assumes nothing.
+--
 use Prim.Native.Nat.{_-_}
 use mathlib.Core.Path.{sym, _∙_}
 use native.Mathlib.Omega.{arith}

@@ -1,3 +1,4 @@
+-- `Millionths::interval` meets its contract: it is the rules' interval, and nothing overflows.
 use Prim.Native.Nat.{_+_, _*_}
 use native.Mathlib.Omega.{arith}
 use native.Mathlib.Nat.{div-le-self}

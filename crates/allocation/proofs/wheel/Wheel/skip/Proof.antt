@@ -1,8 +1,7 @@
+-- `Wheel::skip` meets its contract: the sum's whole part is skipped and its rest reserved.
 use borrow.Author.Needs.{needs}
-use Prim.Native.Nat.{_+_}
 use mathlib.Core.Path.{refl}
-use Rattle.allocation.specs.Millionths.{millionths}
-use Rattle.allocation.proofs.TurnLaws.{skip-is}
+use Rattle.allocation.proofs.BlockLaws.{skip-is}
 use Rattle.allocation.proofs.wheel.Wheel.skip.Statement.{statement}
 use Rattle.allocation.proofs.wheel.Wheel.skip.Tie as tie
 
@@ -20,11 +19,7 @@ rest-requires c κs = search needs
 
 returns : tie.Need-returns
 returns c =
-    let a = c .before .before .before .before .before .before .before .before .args in
-    let due = c .before .before .before .plus in (
-      refl,
-      skip-is (a .shorts .now) (a .self .cursor .at) (a .self .cursor .passed .0) (millionths (a .self .interval) + millionths (a .self .reserve)) (millionths (due .result)) (c .before .before .whole .result .0) (c .before .skip-run .result .at) (c .before .skip-run .result .passed .0) (millionths (c .rest .result)) (due .ensures .0) (c .before .before .whole .ensures) (c .rest .ensures) (c .before .skip-run .ensures),
-    )
+    skip-is _ _ _ _ _ (c .before .before .before .plus .ensures .0) (c .before .before .whole .ensures) refl (c .before .skip-run .ensures) (c .rest .ensures)
 
 pub skip-spec : {M : Type 1} → statement M
 skip-spec =

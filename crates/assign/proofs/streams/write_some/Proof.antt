@@ -1,0 +1,57 @@
+-- `streams::write_some` meets its contract. The loop ends since each interruption lowers the number that is left.
+use borrow.Author.Needs.{needs}
+use Rattle.assign.proofs.streams.write_some.Statement.{statement}
+use Rattle.assign.proofs.streams.write_some.Tie as tie
+
+abbrev Inv-loop : tie.InvT-loop
+Inv-loop descriptor bytes left₀ left = Unit
+
+abbrev μ-loop : tie.MeasureT-loop
+μ-loop descriptor bytes left₀ left = left
+
+loop-holds : tie.Need-loop-holds Inv-loop μ-loop
+loop-holds c = search needs
+
+write-requires : tie.Need-write-requires Inv-loop μ-loop
+write-requires c κs = search needs
+
+count-requires : tie.Need-count-requires Inv-loop μ-loop
+count-requires c κs = search needs
+
+returns : tie.Need-returns Inv-loop μ-loop
+returns c = search needs
+
+errno-requires : tie.Need-errno-requires Inv-loop μ-loop
+errno-requires c κs = search needs
+
+returns-2 : tie.Need-returns-2 Inv-loop μ-loop
+returns-2 c = search needs
+
+sub-left : tie.Need-sub-left Inv-loop μ-loop
+sub-left c = search needs
+
+loop-less : tie.Need-loop-less Inv-loop μ-loop
+loop-less c = search needs
+
+loop-again : tie.Need-loop-again Inv-loop μ-loop
+loop-again c = search needs
+
+returns-3 : tie.Need-returns-3 Inv-loop μ-loop
+returns-3 c = search needs
+
+pub write-some-spec : {M : Type 1} → statement M
+write-some-spec =
+    tie.close
+    (tie.spec
+    Inv-loop
+    μ-loop
+    loop-holds
+    write-requires
+    count-requires
+    returns
+    errno-requires
+    returns-2
+    sub-left
+    loop-less
+    loop-again
+    returns-3)

@@ -1,0 +1,2 @@
+-- The laws of the words for a refusal.
+mod ExplanationLaws

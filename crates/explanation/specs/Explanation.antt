@@ -1,0 +1,37 @@
+-- One line of English for each number of a refusal, in the order of the numbers, and one for any other number.
+use Prim.Native.Nat.{ℕ, zero, suc}
+use mathlib.Core.List.{List, [], _∷_}
+use lib.ListN.{getD}
+use Rattle.series.specs.Ascii.{ascii}
+
+-- the lines of the refusals 1 to 15
+unfoldable pub refusals : List (List ℕ)
+refusals =
+    ascii "accounts and shorts differ in length\n" ∷
+    ascii "there are more than 4,096 positions\n" ∷
+    ascii "there are no positions\n" ∷
+    ascii "an output is too short\n" ∷
+    ascii "an account is 0 or not above the one before it\n" ∷
+    ascii "a position has no short contracts\n" ∷
+    ascii "the positions hold more than 10,000,000 contracts\n" ∷
+    ascii "no contract is exercised\n" ∷
+    ascii "more is exercised than the positions hold\n" ∷
+    ascii "the draw is outside 1 to T (W) or 1 to 10,000 (L)\n" ∷
+    ascii "the text has more than 32,768 bytes\n" ∷
+    ascii "line 1 or line 3 is missing or not exact\n" ∷
+    ascii "line 2 or a position line is malformed\n" ∷
+    ascii "the method is not W, P or L\n" ∷
+    ascii "there are more than 1,024 positions in a text\n" ∷ []
+
+-- the line of any other number
+unfoldable pub noRefusal : List ℕ
+noRefusal = ascii "no refusal has this number\n"
+
+-- the line of a number
+unfoldable pub explanation : ℕ → List ℕ
+explanation zero = noRefusal
+explanation (suc n) = getD refusals n noRefusal
+
+-- no line is longer
+abbrev pub LONGEST : ℕ
+LONGEST = 50

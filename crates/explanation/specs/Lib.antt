@@ -1,0 +1,2 @@
+-- The words for the number of a refusal.
+pub mod Explanation

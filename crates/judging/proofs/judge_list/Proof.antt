@@ -1,0 +1,16 @@
+-- `judge_list` meets its contract: a list is judged with an output of its own length.
+use borrow.Author.Needs.{needs}
+use Rattle.judging.specs.Judged.{judgedOf}
+use Rattle.judging.proofs.TableLaws.{judged-list}
+use Rattle.judging.proofs.judge_list.Statement.{statement}
+use Rattle.judging.proofs.judge_list.Tie as tie
+
+judge-rows-requires : tie.Need-judge-rows-requires
+judge-rows-requires c κs = search needs
+
+returns : tie.Need-returns
+returns c = let a = c .before .before .before .args in
+    judged-list (a .accounts .now) (a .shorts .now) (judgedOf (c .judge-rows .result)) (c .judge-rows .ensures)
+
+pub judge-list-spec : {M : Type 1} → statement M
+judge-list-spec = tie.close (tie.spec judge-rows-requires returns)

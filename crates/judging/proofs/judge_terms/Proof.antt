@@ -1,0 +1,21 @@
+-- `judge_terms` meets its contract.
+use borrow.Author.Needs.{needs}
+use Rattle.judging.specs.Judged.{judgedOf}
+use Rattle.judging.proofs.TableLaws.{refused-nothing, refused-above, judged-draw}
+use Rattle.judging.proofs.judge_terms.Statement.{statement}
+use Rattle.judging.proofs.judge_terms.Tie as tie
+
+returns : tie.Need-returns
+returns c = refused-nothing (c .before .before .before .args .terms) (c .before .before .before .args .total .0) (c .if1 .taken)
+
+returns-2 : tie.Need-returns-2
+returns-2 c = refused-above (c .before .before .before .before .before .before .args .terms) (c .before .before .before .before .before .before .args .total .0) (c .before .before .before .if1 .left) (c .if2 .taken)
+
+judge-draw-requires : tie.Need-judge-draw-requires
+judge-draw-requires c κs = search needs
+
+returns-3 : tie.Need-returns-3
+returns-3 c = judged-draw (c .before .before .before .before .before .before .before .args .terms) (c .before .before .before .before .before .before .before .args .total .0) (c .before .before .before .before .if1 .left) (c .before .if2 .left) (judgedOf (c .judge-draw .result)) (c .judge-draw .ensures)
+
+pub judge-terms-spec : {M : Type 1} → statement M
+judge-terms-spec = tie.close (tie.spec returns returns-2 judge-draw-requires returns-3)

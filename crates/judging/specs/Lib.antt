@@ -1,0 +1,3 @@
+-- What judging answers, and what the methods promise of a judged series.
+pub mod Judged
+pub mod Assigning

@@ -1,0 +1,60 @@
+-- `allocate` meets its contract: a refused call keeps its output, any other is assigned in two rounds.
+use borrow.Author.Needs.{needs}
+use mathlib.Core.Path.{refl, sym, ap, _∙_}
+use lib.ListN.{length}
+use lib.Seq.{length-take-le}
+use Rattle.series.specs.Series.{Series}
+use Rattle.series.specs.declared.Method.{Method}
+use Rattle.judging.specs.Judged.{judgedOf}
+use Rattle.judging.proofs.CallLaws.{fits, call-refused, call-requires, call-allocated}
+use Rattle.pro_rata.proofs.AnswerLaws.{pro-rata-gives}
+use Rattle.pro_rata.proofs.allocate.Statement.{statement}
+use Rattle.pro_rata.proofs.allocate.Tie as tie
+
+judge-requires : tie.Need-judge-requires
+judge-requires c κs = search needs
+
+enum-known-refusal : tie.Need-enum-known-refusal
+enum-known-refusal c = search needs
+
+enum-known-total : tie.Need-enum-known-total
+enum-known-total c = search needs
+
+slice-relend-prefix-assign : tie.Need-slice-relend-prefix-assign
+slice-relend-prefix-assign c = let a = c .before .before .before .before .before .before .before .args in
+    fits (record { terms = record { method = Method.ProRata; exercised = a .exercised; draw = a .draw }; accounts = a .accounts .now; shorts = a .shorts .now }) (a .amounts .now) (c .before .total .given .0 .0 .0) (sym (ap judgedOf (c .before .total .given .1)) ∙ c .before .before .before .judge .ensures)
+
+slice-aggregate-assign : tie.Need-slice-aggregate-assign
+slice-aggregate-assign c = let a = c .before .before .before .before .before .before .before .before .args in
+    sym (length-take-le (length (a .shorts .now)) (a .amounts .now) (fits (record { terms = record { method = Method.ProRata; exercised = a .exercised; draw = a .draw }; accounts = a .accounts .now; shorts = a .shorts .now }) (a .amounts .now) (c .before .before .total .given .0 .0 .0) (sym (ap judgedOf (c .before .before .total .given .1)) ∙ c .before .before .before .before .judge .ensures)))
+
+assign-requires : tie.Need-assign-requires
+assign-requires c κs = let a = c .before .before .before .before .before .before .before .before .args in
+    call-requires (record { terms = record { method = Method.ProRata; exercised = a .exercised; draw = a .draw }; accounts = a .accounts .now; shorts = a .shorts .now }) (a .amounts .now) (c .before .before .total .given .0 .0 .0) (sym (ap judgedOf (c .before .before .total .given .1)) ∙ c .before .before .before .before .judge .ensures) .0
+
+returns : tie.Need-returns
+returns c = let a = c .before .before .before .before .before .before .before .args in
+    call-refused (record { terms = record { method = Method.ProRata; exercised = a .exercised; draw = a .draw }; accounts = a .accounts .now; shorts = a .shorts .now }) (a .amounts .now) _ (sym (ap judgedOf (c .before .refusal .given .1)) ∙ c .before .before .before .judge .ensures)
+
+same-length : tie.Need-same-length
+same-length c = search needs
+
+returns-2 : tie.Need-returns-2
+returns-2 c = let a = c .before .before .before .before .before .before .before .before .before .before .before .args in
+    let T = c .before .before .before .before .before .total .given .0 .0 .0 in
+    let v = sym (ap judgedOf (c .before .before .before .before .before .total .given .1)) ∙ c .before .before .before .before .before .before .before .judge .ensures in
+    call-allocated (record { terms = record { method = Method.ProRata; exercised = a .exercised; draw = a .draw }; accounts = a .accounts .now; shorts = a .shorts .now }) (a .amounts .now) T v _ (c .before .before .assign .last .1 .1 .1 .1 .0) (pro-rata-gives (record { method = Method.ProRata; exercised = a .exercised; draw = a .draw }) (a .shorts .now) _ T (call-requires (record { terms = record { method = Method.ProRata; exercised = a .exercised; draw = a .draw }; accounts = a .accounts .now; shorts = a .shorts .now }) (a .amounts .now) T v .0) refl (c .before .before .assign .result .0) _ (c .before .before .assign .ensures .0) (c .before .before .assign .ensures .1))
+
+pub allocate-spec : {M : Type 1} → statement M
+allocate-spec =
+    tie.close
+    (tie.spec
+    judge-requires
+    enum-known-refusal
+    enum-known-total
+    slice-relend-prefix-assign
+    slice-aggregate-assign
+    assign-requires
+    returns
+    same-length
+    returns-2)

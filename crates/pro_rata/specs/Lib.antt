@@ -1,0 +1,2 @@
+-- What the functions of the two rounds ask and promise.
+pub mod Rounds

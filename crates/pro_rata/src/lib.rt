@@ -1,0 +1,37 @@
+// Pro rata (P): the allocating call by it.
+mod rounds;
+
+use judging::Judged;
+use series::Answer;
+use series::Contracts;
+use series::Method;
+use series::Terms;
+ghost use lib.ListN.{length};
+ghost use Rattle.series.specs.Answers.{answerOf};
+ghost use Rattle.series.specs.Fair.{AllocatingCall};
+ghost use Rattle.series.specs.declared.Method.{Method as Method·};
+
+// Assigns the exercised contracts pro rata, amounts in list order; or the first refusal that applies, and then amounts keeps its elements.
+pub fn allocate(
+    exercised: Contracts,
+    draw: u32,
+    accounts: &[u32],
+    shorts: &[u32],
+    amounts: &mut [u32],
+) -> Answer
+    ensures { λ r. ⌜ AllocatingCall (record { terms = record { method = Method·.ProRata; exercised = exercised; draw = draw }; accounts = now (accounts .entry); shorts = now (shorts .entry) }) (answerOf r) (now (amounts .entry)) (now (amounts .exit)) ⌝ }
+{
+    let terms = Terms {
+        method: Method::ProRata,
+        exercised,
+        draw,
+    };
+    match judging::judge(terms, accounts, shorts, amounts.len()) {
+        Judged::Refused(refusal) => Answer::Refused(refusal),
+        Judged::Accepted(total) => {
+            let n = shorts.len();
+            let remainder = rounds::assign(shorts, total, exercised, draw, &mut amounts[..n]);
+            Answer::ProRata { total, remainder }
+        }
+    }
+}

@@ -1,0 +1,97 @@
+-- Laws of the rows of columns, and of the columns of rows.
+use Prim.Native.Nat.{ℕ, zero, suc, _+_, _<_}
+use mathlib.Core.Path.{_≡_, refl, sym, ap, ap₂, _∙_}
+use mathlib.Core.Bool.{true}
+use mathlib.Core.List.{List, [], _∷_, _++_, map, map-append}
+use native.Mathlib.Omega.{arith}
+use native.Mathlib.Numerals.{add-one}
+use lib.ListN.{length, getD, take, set, length-append, List·getD-append, List·getD-map}
+use lib.Seq.{ext-getD, getD-at, length-take-le, take-suc-set}
+use Rattle.series.specs.Sums.{listed}
+use Rattle.series.proofs.SumLaws.{length-listed, listed-cong, getD-listed}
+use Rattle.series_text.specs.Rows.{rowOf, rowsOf, column}
+
+-- as many rows as the first column has numbers
+pub length-rows : (c : List ℕ) (cs : List (List ℕ)) → length (rowsOf (c ∷ cs)) ≡ length c
+unfolding rowsOf
+length-rows c cs = length-listed (rowOf (c ∷ cs)) (length c)
+
+-- ---- a column of the rows
+
+map-listed : {A B : Type 0} (f : A → B) (g : ℕ → A) (n : ℕ) → map f (listed g n) ≡ listed (λ i. f (g i)) n
+unfolding listed
+map-listed f g zero = refl
+map-listed f g (suc n) = map-append f (listed g n) (g n ∷ []) ∙ ap (λ l. l ++ (f (g n) ∷ [])) (map-listed f g n)
+
+listed-all : (xs : List ℕ) → listed (λ i. getD xs i 0) (length xs) ≡ xs
+listed-all xs =
+    let e = length-listed (λ i. getD xs i 0) (length xs) in
+    ext-getD 0 (listed (λ i. getD xs i 0) (length xs)) xs e (λ i lt. getD-listed (λ i. getD xs i 0) (length xs) i (omega arith))
+
+-- column j of the rows, where it is as long as the first
+pub column-rows : (c : List ℕ) (cs : List (List ℕ)) (j : ℕ) → length (getD (c ∷ cs) j []) ≡ length c → column j (rowsOf (c ∷ cs)) ≡ getD (c ∷ cs) j []
+unfolding column rowsOf
+column-rows c cs j long =
+    map-listed (λ r. getD r j 0) (rowOf (c ∷ cs)) (length c)
+    ∙ listed-cong (λ i. getD (rowOf (c ∷ cs) i) j 0) (λ i. getD (getD (c ∷ cs) j []) i 0) (length c) (λ i lt. List·getD-map (λ d. getD d i 0) (c ∷ cs) j [])
+    ∙ rw (← long) (listed-all (getD (c ∷ cs) j []))
+
+pub column-first : (xs ys : List ℕ) → column 0 (rowsOf (xs ∷ ys ∷ [])) ≡ xs
+column-first xs ys = column-rows xs (ys ∷ []) 0 refl
+
+pub column-second : (xs ys : List ℕ) → length ys ≡ length xs → column 1 (rowsOf (xs ∷ ys ∷ [])) ≡ ys
+column-second xs ys e = column-rows xs (ys ∷ []) 1 e
+
+-- ---- one row more
+
+-- each column with a number of the row at its end
+unfoldable pub longer : List (List ℕ) → List ℕ → List (List ℕ)
+longer [] row = []
+longer (c ∷ cs) [] = []
+longer (c ∷ cs) (x ∷ row) = (c ++ (x ∷ [])) ∷ longer cs row
+
+-- each column has n numbers
+unfoldable pub Long : ℕ → List (List ℕ) → Type 0
+Long n [] = Unit {0}
+Long n (c ∷ cs) = (length c ≡ n) × Long n cs
+
+-- the rows before it are the same
+row-before : (n i : ℕ) (cs : List (List ℕ)) (row : List ℕ) → Long n cs → length row ≡ length cs → i < n → rowOf (longer cs row) i ≡ rowOf cs i
+unfolding longer Long
+row-before n i [] row l e lt = refl
+row-before n i (c ∷ cs) [] l e lt = absurd (omega arith)
+row-before n i (c ∷ cs) (x ∷ row) l e lt =
+    let lt′ : i < length c = omega arith in
+    ap₂ _∷_ (List·getD-append c (x ∷ []) 0 i lt′) (row-before n i cs row (l .1) (omega arith) lt)
+
+-- and it is the last
+row-last : (n : ℕ) (cs : List (List ℕ)) (row : List ℕ) → Long n cs → length row ≡ length cs → rowOf (longer cs row) n ≡ row
+unfolding longer Long
+row-last n [] [] l e = refl
+row-last n [] (x ∷ row) l e = absurd (omega arith)
+row-last n (c ∷ cs) [] l e = absurd (omega arith)
+row-last n (c ∷ cs) (x ∷ row) l e = ap₂ _∷_ (getD-at c x [] 0 n (l .0)) (row-last n cs row (l .1) (omega arith))
+
+pub rows-longer : (n : ℕ) (c : List ℕ) (cs : List (List ℕ)) (row : List ℕ) → Long n (c ∷ cs) → length row ≡ length (c ∷ cs) → rowsOf (longer (c ∷ cs) row) ≡ rowsOf (c ∷ cs) ++ (row ∷ [])
+unfolding rowsOf listed longer Long
+rows-longer n c cs [] l e = absurd (omega arith)
+rows-longer n c cs (x ∷ row) l e =
+    let long : length (c ++ (x ∷ [])) ≡ suc n = length-append c (x ∷ []) ∙ omega arith in
+    rw (long, l .0)
+    (ap₂ (λ rows r. rows ++ (r ∷ [])) (listed-cong (rowOf (longer (c ∷ cs) (x ∷ row))) (rowOf (c ∷ cs)) n (λ i lt. row-before n i (c ∷ cs) (x ∷ row) l e lt))
+    (row-last n (c ∷ cs) (x ∷ row) l e))
+
+two : (row : List ℕ) → length row ≡ 2 → getD row 0 0 ∷ getD row 1 0 ∷ [] ≡ row
+two [] e = absurd (omega arith)
+two (a ∷ []) e = absurd (omega arith)
+two (a ∷ b ∷ []) e = refl
+two (a ∷ b ∷ c ∷ row) e = absurd (omega arith)
+
+-- one row more of two lists that are written
+pub rows-set : (xs ys : List ℕ) (n : ℕ) (row : List ℕ) → n < length xs → n < length ys → length row ≡ 2
+    → rowsOf (take (n + 1) (set xs n (getD row 0 0)) ∷ take (n + 1) (set ys n (getD row 1 0)) ∷ []) ≡ rowsOf (take n xs ∷ take n ys ∷ []) ++ (row ∷ [])
+unfolding longer Long
+rows-set xs ys n row lx ly e =
+    rw (add-one, take-suc-set xs n (getD row 0 0) lx, take-suc-set ys n (getD row 1 0) ly)
+    (rows-longer n (take n xs) (take n ys ∷ []) (getD row 0 0 ∷ getD row 1 0 ∷ []) (length-take-le n xs (omega arith), (length-take-le n ys (omega arith), tt)) refl
+    ∙ ap (λ (r : List ℕ). rowsOf (take n xs ∷ take n ys ∷ []) ++ (r ∷ [])) (two row e))

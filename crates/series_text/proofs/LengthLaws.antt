@@ -1,0 +1,105 @@
+-- How long the lines of a text are, and what is left of them after some of their numbers.
+use Prim.Native.Nat.{ℕ, zero, suc, _+_, _-_, _*_, _≤_, _<_}
+use mathlib.Core.Path.{_≡_, refl, sym, ap, _∙_}
+use mathlib.Core.List.{List, [], _∷_, _++_, append-assoc, append-nil}
+use native.Mathlib.Omega.{arith}
+use native.Mathlib.Numerals.{add-one}
+use lib.ListN.{length, getD, drop, length-append, length-drop, length-map, drop-of-length-le}
+use lib.Seq.{drop-cons}
+use Rattle.series.specs.Ascii.{ascii}
+use Rattle.series.specs.Sums.{sumBelow, listed}
+use Rattle.series.specs.declared.Terms.{Terms}
+use Rattle.series.proofs.SumLaws.{sum-mono, sum-const, sum-first}
+use Rattle.series_text.specs.Numbers.{decimal}
+use Rattle.series_text.specs.Fields.{Text, endBefore, writeNumber}
+use Rattle.series_text.specs.Rows.{writeRow, writeRows, rowOf, rowsOf}
+use Rattle.series_text.specs.Names.{namesLine}
+use Rattle.series_text.specs.Text.{writeTerms, writeHead}
+use Rattle.series_text.specs.declared.names.Heading.{Heading}
+use Rattle.series_text.specs.Calls.{lineCount}
+use Rattle.series_text.proofs.RowLaws.{row-few}
+
+pub length-number : (n c : ℕ) → length (writeNumber n c) ≡ length (decimal n) + 1
+unfolding writeNumber
+length-number n c = length-append (decimal n) (c ∷ [])
+
+-- ---- a row, from number i on
+
+-- number i with the byte that ends its field
+abbrev pub numberAt : List ℕ → ℕ → Text
+numberAt row i = writeNumber (getD row i 0) (endBefore (length row - i - 1))
+
+-- what is left of the line after number i - 1 is number i and what is left after it
+pub row-next : (row : List ℕ) (i : ℕ) → i < length row → writeRow (drop i row) ≡ numberAt row i ++ writeRow (drop (i + 1) row)
+unfolding writeRow
+row-next row i lt =
+    let e : length (drop (suc i) row) ≡ length row - i - 1 = length-drop (suc i) row ∙ omega arith in
+    rw (drop-cons row i 0 lt, add-one, e)
+
+pub row-next-length : (row : List ℕ) (i : ℕ) → i < length row → length (writeRow (drop i row)) ≡ length (decimal (getD row i 0)) + 1 + length (writeRow (drop (i + 1) row))
+row-next-length row i lt =
+    ap length (row-next row i lt)
+    ∙ length-append (numberAt row i) (writeRow (drop (i + 1) row))
+    ∙ ap (_+ length (writeRow (drop (i + 1) row))) (length-number (getD row i 0) (endBefore (length row - i - 1)))
+
+-- nothing is left after the last number
+pub row-done : (row : List ℕ) (i : ℕ) → length row ≤ i → writeRow (drop i row) ≡ []
+unfolding writeRow
+row-done row i le = rw (drop-of-length-le row le)
+
+-- ---- rows
+
+pub rows-append : (rs qs : List (List ℕ)) → writeRows (rs ++ qs) ≡ writeRows rs ++ writeRows qs
+unfolding writeRows
+rows-append [] qs = refl
+rows-append (r ∷ rs) qs = rw (rows-append rs qs) (sym (append-assoc (writeRow r) (writeRows rs) (writeRows qs)))
+
+-- the lines of the rows f 0, f 1, .., f (n - 1)
+abbrev pub linesOf : (ℕ → List ℕ) → ℕ → Text
+linesOf f n = writeRows (listed f n)
+
+-- one more line
+pub lines-next : (f : ℕ → List ℕ) (n : ℕ) → linesOf f (n + 1) ≡ linesOf f n ++ writeRow (f n)
+unfolding listed writeRows
+lines-next f n = rw (add-one n) (rows-append (listed f n) (f n ∷ []) ∙ ap (linesOf f n ++_) (append-nil (writeRow (f n))))
+
+pub lines-next-length : (f : ℕ → List ℕ) (n : ℕ) → length (linesOf f (n + 1)) ≡ length (linesOf f n) + length (writeRow (f n))
+lines-next-length f n = ap length (lines-next f n) ∙ length-append (linesOf f n) (writeRow (f n))
+
+-- all of them
+pub lines-all : (c : List ℕ) (cs : List (List ℕ)) (n : ℕ) → n ≡ length c → linesOf (rowOf (c ∷ cs)) n ≡ writeRows (rowsOf (c ∷ cs))
+unfolding rowsOf
+lines-all c cs n e = rw e
+
+length-lines : (f : ℕ → List ℕ) (n : ℕ) → length (linesOf f n) ≡ sumBelow (λ i. length (writeRow (f i))) n
+unfolding listed writeRows sumBelow
+length-lines f zero = refl
+length-lines f (suc n) = ap (λ (k : ℕ). length (linesOf f k)) (sym (add-one n)) ∙ lines-next-length f n ∙ ap (_+ length (writeRow (f n))) (length-lines f n)
+
+-- the first lines are no longer than all of them
+pub lines-within : (f : ℕ → List ℕ) (m n : ℕ) → m ≤ n → length (linesOf f m) ≤ length (linesOf f n)
+lines-within f m n h = omega (arith, length-lines f m, length-lines f n, sum-first (λ i. length (writeRow (f i))) m n h)
+
+-- rows of at most k numbers have lines of at most 11 * k bytes
+pub lines-room : (f : ℕ → List ℕ) (k n : ℕ) → ((i : ℕ) → length (f i) ≤ k) → length (linesOf f n) ≤ 11 * k * n
+lines-room f k n h =
+    let each : (i : ℕ) → i < n → length (writeRow (f i)) ≤ 11 * k = λ i _. omega (arith, row-few (f i), h i) in
+    omega (arith, length-lines f n, sum-mono (λ i. length (writeRow (f i))) (λ _. 11 * k) n each, sum-const (11 * k) n)
+
+-- the lines of k columns have at most 11 * k bytes each
+pub rows-room : (cs : List (List ℕ)) → length (writeRows (rowsOf cs)) ≤ 11 * length cs * lineCount cs
+unfolding rowsOf lineCount writeRows
+rows-room [] = omega arith
+rows-room (c ∷ cs) = lines-room (rowOf (c ∷ cs)) (length (c ∷ cs)) (length c) (λ i. omega (arith, length-map (c ∷ cs) (λ d. getD d i 0)))
+
+-- ---- lines 1 to 3
+
+-- their length is that of their parts
+pub length-head : (t : Terms) → length (writeHead t) ≡ length (namesLine Heading.Terms) + (2 + length (writeRow (t .exercised .0 ∷ t .draw ∷ []))) + length (namesLine Heading.Positions)
+unfolding writeHead writeTerms
+length-head t =
+    omega (arith, length-append (namesLine Heading.Terms) (writeTerms t ++ namesLine Heading.Positions), length-append (writeTerms t) (namesLine Heading.Positions))
+
+pub head-room : (t : Terms) → length (writeHead t) ≤ 60
+unfolding namesLine ascii
+head-room t = omega (arith, length-head t, row-few (t .exercised .0 ∷ t .draw ∷ []))

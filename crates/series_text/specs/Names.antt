@@ -1,0 +1,38 @@
+-- The names lines: what each stands for.
+use Prim.Native.Nat.{ℕ}
+use mathlib.Core.Bool.{cond}
+use mathlib.Core.List.{List, [], _∷_}
+use lib.Dec.{eqb}
+use Rattle.series.specs.Ascii.{ascii}
+use Rattle.series.specs.Results.{Result, refused, value, _>>=_}
+use Rattle.series_text.specs.Fields.{Text, Read}
+use Rattle.series_text.specs.declared.names.Heading.{Heading}
+
+-- the line of each heading
+unfoldable pub namesLine : Heading → Text
+namesLine Heading.Terms = ascii "method,exercised,draw\n"
+namesLine Heading.Positions = ascii "account,short\n"
+
+-- the headings that line 1 may have
+abbrev pub line1 : List Heading
+line1 = Heading.Terms ∷ []
+
+-- the headings that line 3 may have
+abbrev pub line3 : List Heading
+line3 = Heading.Positions ∷ []
+
+-- the text after the line p, else 12
+unfoldable pub afterLine : Text → Text → Result Text
+afterLine [] s = value s
+afterLine (a ∷ p) [] = refused 12
+afterLine (a ∷ p) (b ∷ s) = cond (eqb a b) (afterLine p s) (refused 12)
+
+-- the heading h and the text after its line, else what the other headings give
+unfoldable pub headingOr : Heading → Result Text → Result (Read Heading) → Result (Read Heading)
+headingOr h (value rest) other = value (record { found = h; rest = rest })
+headingOr h (refused n) other = other
+
+-- the first of the known headings whose line the text begins with, else 12
+unfoldable pub readNames : List Heading → Text → Result (Read Heading)
+readNames [] s = refused 12
+readNames (h ∷ known) s = headingOr h (afterLine (namesLine h) s) (readNames known s)

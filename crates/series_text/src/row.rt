@@ -1,0 +1,55 @@
+// Rows: lines of numbers. Each number but the last is ended by a comma, the last by byte 10.
+use crate::ends::end_before;
+use crate::field::Found;
+use crate::field::find_end;
+use crate::number::Field;
+use crate::number::read_number;
+ghost use mathlib.Core.Path.{_≡_};
+ghost use lib.ListN.{length, drop};
+ghost use Rattle.series.specs.Results.{refused};
+ghost use Rattle.series_text.specs.Fields.{readFields};
+ghost use Rattle.series_text.specs.Parts.{fieldsMean, fieldsThenNumbers, foundFields};
+
+// What reading a row finds: its numbers, with the index after it; as many fields that are not all numbers; or not as many fields.
+pub enum Fields {
+    Numbers(usize),
+    Malformed,
+    Missing,
+}
+
+// Whether a line of so many fields stands at an index.
+fn has_fields(text: &[u8], at: usize, fields: usize) -> bool
+    ensures { λ r. ⌜ r ≡ foundFields (readFields fields (drop at (now (text .entry)))) ⌝ }
+{
+    let mut next = at;
+    let mut left = fields;
+    while 0 < left {
+        left -= 1;
+        let Found::At(end) = find_end(text, next, end_before(left)) else {
+            return false;
+        };
+        next = end + 1;
+    }
+    true
+}
+
+// Reads a row of as many numbers as the lent list has.
+pub fn read_row(text: &[u8], at: usize, row: &mut [u32]) -> Fields
+    ensures { λ r. ⌜ fieldsMean (now (text .entry)) (now (row .exit)) r ≡ fieldsThenNumbers (length (now (row .entry))) (drop at (now (text .entry))) ⌝ }
+{
+    let mut next = at;
+    let mut i = 0;
+    while i < row.len() {
+        let left = row.len() - i;
+        let Field::Number(number, after) = read_number(text, next, end_before(left - 1)) else {
+            if has_fields(text, next, left) {
+                return Fields::Malformed;
+            }
+            return Fields::Missing;
+        };
+        row[i] = number;
+        next = after;
+        i += 1;
+    }
+    Fields::Numbers(next)
+}

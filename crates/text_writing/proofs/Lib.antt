@@ -1,0 +1,3 @@
+-- Laws that the proofs of src/ cite.
+mod PutLaws
+mod WriteLaws

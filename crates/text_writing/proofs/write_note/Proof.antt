@@ -1,0 +1,56 @@
+-- `write_note` meets its contract: a note is a head and one line of one number.
+--
+use mathlib.Core.Path.{refl, ap}
+use mathlib.Core.List.{[], _∷_}
+use native.Mathlib.Omega.{arith}
+use lib.ListN.{length}
+use Rattle.series_text.specs.Calls.{evenly, lineCount, noteInto}
+use Rattle.text_writing.proofs.WriteLaws.{lines-short, lines-put, one-row}
+use borrow.Author.Needs.{needs}
+use Rattle.text_writing.proofs.write_note.Statement.{statement}
+use Rattle.text_writing.proofs.write_note.Tie as tie
+
+slice-aggregate-row-length : tie.Need-slice-aggregate-row-length
+slice-aggregate-row-length c = search needs
+
+row-length-requires : tie.Need-row-length-requires
+row-length-requires c κs = search needs
+
+add-if1 : tie.Need-add-if1
+add-if1 c = search needs
+
+returns : tie.Need-returns
+unfolding noteInto evenly lineCount
+returns c = let a = c .before .before .before .before .before .args in
+    lines-short (a .names .now) ((a .number ∷ []) ∷ []) (a .text .now) refl (omega arith) (omega (arith, ap length (one-row (a .number))))
+
+put-line-requires : tie.Need-put-line-requires
+put-line-requires c κs = search needs
+
+slice-aggregate-put-row : tie.Need-slice-aggregate-put-row
+slice-aggregate-put-row c = search needs
+
+put-row-requires : tie.Need-put-row-requires
+put-row-requires c κs = search needs
+
+same-length : tie.Need-same-length
+same-length c = search needs
+
+returns-2 : tie.Need-returns-2
+unfolding noteInto evenly lineCount
+returns-2 c = let a = c .before .before .before .before .before .before .before .before .before .before .before .before .before .before .args in
+    lines-put (a .names .now) ((a .number ∷ []) ∷ []) (a .text .now) refl (omega arith) (omega (arith, ap length (one-row (a .number)))) _ _ _ _ (c .before .before .before .before .before .before .before .put-line .ensures) (rw (one-row (a .number)) (c .before .before .put-row .ensures))
+
+pub write-note-spec : {M : Type 1} → statement M
+write-note-spec =
+    tie.close
+    (tie.spec
+    slice-aggregate-row-length
+    row-length-requires
+    add-if1
+    returns
+    put-line-requires
+    slice-aggregate-put-row
+    put-row-requires
+    same-length
+    returns-2)

@@ -1,0 +1,3 @@
+-- What writing answers and promises.
+pub mod Answers
+pub mod Parts

@@ -1,0 +1,21 @@
+// Writing the names lines.
+use crate::put::put_line;
+use series_text::names::Heading;
+use series_text::names::POSITION_NAMES;
+use series_text::names::TERMS_NAMES;
+ghost use mathlib.Core.Path.{_≡_};
+ghost use Prim.Native.Nat.{_+_, _≤_};
+ghost use lib.ListN.{length};
+ghost use Rattle.series_text.specs.Names.{namesLine};
+ghost use Rattle.text_writing.specs.Parts.{Put};
+
+// Puts the line of a heading.
+pub fn put_names(text: &mut [u8], at: usize, heading: Heading) -> usize
+    requires { ⌜ at + length (namesLine heading) ≤ length (now text) ⌝ }
+    ensures { λ r. ⌜ Put (namesLine heading) (now (text .entry)) at (now (text .exit)) r ⌝ }
+{
+    match heading {
+        Heading::Terms => put_line(text, at, &TERMS_NAMES),
+        Heading::Positions => put_line(text, at, &POSITION_NAMES),
+    }
+}

@@ -1,0 +1,46 @@
+{ Dilbreth: exercise assignment of option contracts. dilbreth.h says what each call does and answers.
+  A list is a pointer and then its length; no pointer may be nil. }
+unit dilbreth;
+
+{$mode objfpc}
+{$linklib libdilbreth.a}
+{$linklib c}
+
+interface
+
+const
+  DILBRETH_VERSION = 2;
+  DILBRETH_WHEEL = Ord('W');
+  DILBRETH_PRO_RATA = Ord('P');
+  DILBRETH_LOTTERY = Ord('L');
+  DILBRETH_LONGEST_EXPLANATION = 50;
+
+function dilbreth_allocate(method: Byte;
+  accounts: PLongWord; accounts_len: SizeUInt;
+  shorts: PLongWord; shorts_len: SizeUInt;
+  exercised, draw: LongWord;
+  amounts: PLongWord; amounts_len: SizeUInt;
+  total, further: PLongWord): LongWord; cdecl; external;
+
+function dilbreth_read(text: PByte; text_len: SizeUInt;
+  accounts: PLongWord; accounts_len: SizeUInt;
+  shorts: PLongWord; shorts_len: SizeUInt;
+  method: PByte; exercised, draw: PLongWord;
+  positions: PSizeUInt): LongWord; cdecl; external;
+
+function dilbreth_write(method: Byte; exercised, draw: LongWord;
+  accounts: PLongWord; accounts_len: SizeUInt;
+  shorts: PLongWord; shorts_len: SizeUInt;
+  text: PByte; text_len: SizeUInt;
+  written: PSizeUInt): LongWord; cdecl; external;
+
+function dilbreth_respond(text: PByte; text_len: SizeUInt;
+  output: PByte; output_len: SizeUInt;
+  written: PSizeUInt): LongWord; cdecl; external;
+
+function dilbreth_explain(number: LongWord;
+  line: PByte; line_len: SizeUInt): SizeUInt; cdecl; external;
+
+implementation
+
+end.

@@ -1,0 +1,65 @@
+// The words for the refusals: README.md and the header show those of the library.
+
+use compare::Count;
+
+const README: &str = include_str!("../../../README.md");
+const HEADER: &str = include_str!("../../../include/dilbreth.h");
+const UNIT: &str = include_str!("../../../include/dilbreth.pas");
+
+// The words of README's table: rows `| number | words | what to do |`.
+fn readme_table() -> Vec<(u32, String)> {
+    let row = |line: &str| {
+        let cells: Vec<&str> = line.strip_prefix('|')?.split('|').map(str::trim).collect();
+        Some((cells[0].parse().ok()?, cells[1].to_string()))
+    };
+    README.lines().filter_map(row).collect()
+}
+
+// The words of the header's table: lines ` *   number  words`.
+fn header_table() -> Vec<(u32, String)> {
+    let row = |line: &str| {
+        let (number, words) = line.strip_prefix(" * ")?.trim_start().split_once("  ")?;
+        Some((number.parse().ok()?, words.to_string()))
+    };
+    HEADER.lines().filter_map(row).collect()
+}
+
+// The value of a constant of the header.
+fn header_constant(name: &str) -> u32 {
+    let start = format!("#define {name} ");
+    HEADER.lines().find_map(|line| line.strip_prefix(&start)).expect(name).parse().unwrap()
+}
+
+#[test]
+fn tables_show_the_words() {
+    let words: Vec<(u32, String)> = (1..=15).map(|number| (number, dilbreth::explain(number))).collect();
+    assert_eq!(readme_table(), words);
+    assert_eq!(header_table(), words);
+}
+
+#[test]
+fn every_number_and_output() {
+    let mut count = Count::new("words");
+    let table = header_table();
+    let mut longest = 0;
+    for number in (0..=40).chain([u32::MAX - 1, u32::MAX]) {
+        let found = table.iter().find(|(n, _)| *n == number);
+        let line = format!("{}\n", found.map_or("no refusal has this number", |(_, words)| words));
+        longest = longest.max(line.len());
+        for room in (0..=line.len() + 2).chain([100, 4_096]) {
+            count.case(compare::explain(number, line.as_bytes(), room));
+        }
+    }
+    assert_eq!(longest as u32, header_constant("DILBRETH_LONGEST_EXPLANATION"));
+    count.print();
+}
+
+// The constants that the header, the Pascal unit and the Rust wrapper each have.
+#[test]
+fn one_version() {
+    assert_eq!(header_constant("DILBRETH_VERSION"), dilbreth::VERSION);
+    for name in ["DILBRETH_VERSION", "DILBRETH_LONGEST_EXPLANATION"] {
+        let line = format!("  {name} = {};\n", header_constant(name));
+        assert!(UNIT.contains(&line), "include/dilbreth.pas has no {line:?}");
+    }
+}

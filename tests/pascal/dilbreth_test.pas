@@ -1,0 +1,65 @@
+{ The unit and the archive, from Pascal: case M and a refusal, through each call. }
+program dilbreth_test;
+
+{$mode objfpc}
+{$H+}
+
+uses
+  dilbreth;
+
+const
+  M = 'method,exercised,draw'#10'L,13,4855'#10'account,short'#10'1,5'#10'2,8'#10'3,2'#10'4,10'#10'5,11'#10;
+  M_ASSIGNED = 'account,assigned'#10'1,0'#10'2,0'#10'3,0'#10'4,8'#10'5,5'#10;
+  AMOUNTS_OF_M: array[0..5] of LongWord = (0, 0, 0, 8, 5, 999);
+
+var
+  wrong: Integer = 0;
+  series, bytes: string;
+  accounts, shorts, amounts: array[0..5] of LongWord;
+  method: Byte;
+  exercised, draw, total, further: LongWord;
+  positions, written: SizeUInt;
+
+procedure See(const what: string; holds: Boolean);
+begin
+  if holds then
+    WriteLn(what, ': ok')
+  else
+  begin
+    WriteLn(what, ': WRONG');
+    Inc(wrong);
+  end;
+end;
+
+{ The first bytes of the output. }
+function First(count: SizeUInt): string;
+begin
+  First := Copy(bytes, 1, count);
+end;
+
+begin
+  series := M;
+  bytes := StringOfChar('x', 100);
+  FillDWord(accounts, 6, 999);
+  FillDWord(shorts, 6, 999);
+  FillDWord(amounts, 6, 999);
+  See('read', (dilbreth_read(PByte(series), Length(series), @accounts[0], 6, @shorts[0], 6,
+    @method, @exercised, @draw, @positions) = 0)
+    and (method = DILBRETH_LOTTERY) and (exercised = 13) and (draw = 4855) and (positions = 5)
+    and (accounts[4] = 5) and (shorts[4] = 11) and (accounts[5] = 999) and (shorts[5] = 999));
+  See('allocate', (dilbreth_allocate(method, @accounts[0], 5, @shorts[0], 5, exercised, draw,
+    @amounts[0], 6, @total, @further) = 0)
+    and (total = 36) and (further = 18) and (CompareDWord(amounts, AMOUNTS_OF_M, 6) = 0));
+  See('allocate refuses 9', dilbreth_allocate(DILBRETH_WHEEL, @accounts[0], 5, @shorts[0], 5, 37, 1,
+    @amounts[0], 6, @total, @further) = 9);
+  See('write', (dilbreth_write(method, exercised, draw, @accounts[0], 5, @shorts[0], 5,
+    PByte(bytes), Length(bytes), @written) = 0)
+    and (First(written) = series) and (bytes[written + 1] = 'x'));
+  See('respond', (dilbreth_respond(PByte(series), Length(series), PByte(bytes), Length(bytes), @written) = 0)
+    and (First(written) = M_ASSIGNED));
+  See('explain', First(dilbreth_explain(9, PByte(bytes), Length(bytes)))
+    = 'more is exercised than the positions hold'#10);
+  WriteLn('Pascal: ', wrong, ' wrong');
+  if wrong > 0 then
+    Halt(1);
+end.
