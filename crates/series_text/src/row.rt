@@ -37,12 +37,15 @@ fn has_fields(text: &[u8], at: usize, fields: usize) -> bool
 pub fn read_row(text: &[u8], at: usize, row: &mut [u32]) -> Fields
     ensures { λ r. ⌜ fieldsMean (now (text .entry)) (now (row .exit)) r ≡ fieldsThenNumbers (length (now (row .entry))) (drop at (now (text .entry))) ⌝ }
 {
+    if row.len() == 0 {
+        return Fields::Numbers(at);
+    }
+    let last = row.len() - 1;
     let mut next = at;
     let mut i = 0;
-    while i < row.len() {
-        let left = row.len() - i;
-        let Field::Number(number, after) = read_number(text, next, end_before(left - 1)) else {
-            if has_fields(text, next, left) {
+    while i < last {
+        let Field::Number(number, after) = read_number(text, next, b',') else {
+            if has_fields(text, next, row.len() - i) {
                 return Fields::Malformed;
             }
             return Fields::Missing;
@@ -51,5 +54,12 @@ pub fn read_row(text: &[u8], at: usize, row: &mut [u32]) -> Fields
         next = after;
         i += 1;
     }
-    Fields::Numbers(next)
+    let Field::Number(number, after) = read_number(text, next, b'\n') else {
+        if has_fields(text, next, 1) {
+            return Fields::Malformed;
+        }
+        return Fields::Missing;
+    };
+    row[last] = number;
+    Fields::Numbers(after)
 }

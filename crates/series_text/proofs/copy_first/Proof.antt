@@ -1,5 +1,4 @@
 -- `copy_first` meets its contract. The loop's invariant: the first `i` elements are copied.
---
 use Prim.Native.Nat.{_≤_, _-_}
 use mathlib.Core.Path.{_≡_}
 use native.Mathlib.Omega.{arith}

@@ -1,5 +1,4 @@
 -- `read` meets its contract: the answers of its parts are those of the definition, and the lists are filled last.
---
 use Prim.Native.Nat.{_≤_}
 use mathlib.Core.Path.{_≡_, refl, sym, ap, subst, _∙_}
 use borrow.Author.Needs.{needs}

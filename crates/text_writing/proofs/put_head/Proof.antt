@@ -1,5 +1,4 @@
 -- `put_head` meets its contract: the three lines are put one after the other, and there is room for them.
---
 use Prim.Native.Nat.{_+_, _≤_}
 use mathlib.Core.Path.{_∙_}
 use mathlib.Core.List.{[], _∷_}

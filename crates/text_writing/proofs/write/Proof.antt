@@ -1,5 +1,4 @@
 -- `write` meets its contract: the text of a series is lines 1 to 3, put at the start of a head, and the position lines.
---
 use Prim.Native.Nat.{_≤_}
 use mathlib.Core.Path.{sym}
 use native.Mathlib.Omega.{arith}

@@ -1,5 +1,4 @@
 -- `write_note` meets its contract: a note is a head and one line of one number.
---
 use mathlib.Core.Path.{refl, ap}
 use mathlib.Core.List.{[], _∷_}
 use native.Mathlib.Omega.{arith}

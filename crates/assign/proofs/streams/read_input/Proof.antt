@@ -1,5 +1,4 @@
 -- `read_input` meets its contract. The loop's invariant: what is read lies within the buffer, which keeps its length.
---
 use Prim.Native.Nat.{_+_, _-_, _≤_}
 use mathlib.Core.Path.{_≡_, refl, subst, _∙_}
 use native.Mathlib.Omega.{arith}

@@ -1,5 +1,4 @@
 -- `field::find_end` meets its contract. The loop's invariant: the bytes passed belong to the field, and the field goes on at the cursor.
---
 use Prim.Native.Nat.{_≤_, _-_}
 use mathlib.Core.Path.{_≡_, sym, ap, _∙_}
 use mathlib.Core.Bool.{true}

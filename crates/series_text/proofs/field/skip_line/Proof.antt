@@ -1,5 +1,4 @@
 -- `field::skip_line` meets its contract. The loop's invariant: what is left of the line stands against the text at the cursor.
---
 use Prim.Native.Nat.{_≤_, _-_}
 use mathlib.Core.Path.{refl, sym}
 use native.Mathlib.Omega.{arith}

@@ -1,5 +1,4 @@
 -- `lines::read_head` meets its contract: each line's answer is what the next step of the definition goes on with.
---
 use mathlib.Core.Path.{_≡_, sym, ap, _∙_}
 use native.Mathlib.Omega.{arith}
 use borrow.Author.Needs.{needs}

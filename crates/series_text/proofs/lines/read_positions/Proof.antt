@@ -1,5 +1,4 @@
 -- `lines::read_positions` meets its contract. The loop's invariant: the rows read stand first in the two lists, and the text goes on at the cursor.
---
 use Prim.Native.Nat.{_≤_, _-_}
 use mathlib.Core.Path.{_≡_, refl, sym, ap, _∙_}
 use mathlib.Core.List.{[], _∷_}

@@ -1,5 +1,4 @@
 -- `number::is_spelled` meets its contract: the part is empty, one byte, or begins with two bytes.
---
 use native.Mathlib.Omega.{arith}
 use borrow.Author.Needs.{needs}
 use Rattle.series_text.proofs.FieldLaws.{spelled-none, spelled-one, spelled-more}

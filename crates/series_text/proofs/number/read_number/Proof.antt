@@ -1,5 +1,4 @@
 -- `number::read_number` meets its contract. The loop's invariant: the bytes passed are digits of the field, and `n` is their number.
---
 use Prim.Native.Nat.{_-_}
 use mathlib.Core.Path.{sym, _∙_}
 use native.Mathlib.Omega.{arith}

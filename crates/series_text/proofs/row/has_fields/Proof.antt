@@ -1,5 +1,4 @@
 -- `row::has_fields` meets its contract. The loop's invariant: the fields are there where those that are left are there at the cursor.
---
 use Prim.Native.Nat.{_-_}
 use mathlib.Core.Path.{_≡_, refl, sym, ap, subst, _∙_}
 use native.Mathlib.Omega.{arith}

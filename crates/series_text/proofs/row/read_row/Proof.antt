@@ -1,48 +1,51 @@
 -- `row::read_row` meets its contract. The loop's invariant: the numbers read stand first in the row, and the others are read at the cursor.
---
 use Prim.Native.Nat.{_+_, _-_, _≤_}
 use mathlib.Core.Path.{_≡_, refl, sym, ap, _∙_}
 use native.Mathlib.Omega.{arith}
-use borrow.Author.Needs.{needs}
 use lib.ListN.{length, drop, length-set}
-use Rattle.series_text.specs.Fields.{endBefore}
+use Rattle.series_text.specs.Fields.{ends, endBefore}
 use Rattle.series_text.specs.Parts.{fieldMeans, numberBy}
-use Rattle.series_text.proofs.RowLaws.{end-ends}
-use Rattle.series_text.proofs.LineLaws.{RowTo, row-start, row-end, row-missing, row-more, row-malformed}
+use Rattle.series_text.proofs.LineLaws.{end-last, end-other, RowTo, row-start, row-end, row-missing, row-more, row-malformed}
+use borrow.Author.Needs.{needs}
 use Rattle.series_text.proofs.row.read_row.Statement.{statement}
 use Rattle.series_text.proofs.row.read_row.Tie as tie
 
 abbrev Inv-loop : tie.InvT-loop
-Inv-loop text at row₀ next₀ i₀ row next i = (i ≤ length row₀) × (length row ≡ length row₀) × RowTo (length row₀) text at row next i (length row₀ - i)
+Inv-loop text at row₀ last next₀ i₀ row next i = (i ≤ last) × (length row ≡ length row₀) × RowTo (length row₀) text at row next i (length row₀ - i)
 
 abbrev μ-loop : tie.MeasureT-loop
-μ-loop text at row₀ next₀ i₀ row next i = length row₀ - i
-
--- what `read_number` answered, in the terms of the definition
-looked : (c : tie.After-read-number Inv-loop μ-loop) → let l = c .before .before .before .loop in
-    fieldMeans (c .before .before .before .before .before .before .args .text .now) (c .read-number .result) ≡ numberBy (endBefore (length (l .row) - l .i - 1)) (drop (l .next) (c .before .before .before .before .before .before .args .text .now))
-looked c = rw (c .before .end-before .ensures) at (c .read-number .ensures)
+μ-loop text at row₀ last next₀ i₀ row next i = last - i
 
 -- what the loop keeps, over as many fields as the code counts
 so : (c : tie.In-loop Inv-loop μ-loop) → let l = c .before .loop in
-    let a = c .before .before .before .before .args in
+    let a = c .before .before .before .before .before .args in
     RowTo (length (a .row .now)) (a .text .now) (a .at) (l .row) (l .next) (l .i) (length (l .row) - l .i)
 so c = rw (c .before .loop .inv .1) (c .before .loop .inv .2)
+
+-- after the loop one field is left
+one-left : (c : tie.After-loop Inv-loop μ-loop) → let l = c .before .loop in
+    let a = c .before .before .before .before .before .args in
+    RowTo (length (a .row .now)) (a .text .now) (a .at) (l .row) (l .next) (length (a .row .now) - 1) 1
+one-left c =
+    let l = c .before .loop in
+    let a = c .before .before .before .before .before .args in
+    let last : l .i ≡ length (a .row .now) - 1 = omega arith in
+    let one : length (a .row .now) - l .i ≡ 1 = omega arith in
+    rw (← last) (rw one at (l .inv .2))
+
+returns : tie.Need-returns Inv-loop μ-loop
+returns c = let a = c .before .before .before .args in
+    row-end (row-start {k = length (a .row .now)} {s = a .text .now} {at = a .at} {row = a .row .now} refl) (c .if1 .taken) (omega arith)
+
+sub-last : tie.Need-sub-last Inv-loop μ-loop
+sub-last c = omega arith
 
 loop-holds : tie.Need-loop-holds Inv-loop μ-loop
 loop-holds c = (omega arith, refl, row-start (omega arith))
 
-sub-left : tie.Need-sub-left Inv-loop μ-loop
-sub-left c = omega arith
-
-sub-end-before : tie.Need-sub-end-before Inv-loop μ-loop
-sub-end-before c = omega arith
-
-end-before-requires : tie.Need-end-before-requires Inv-loop μ-loop
-end-before-requires c κs = search needs
-
 read-number-requires : tie.Need-read-number-requires Inv-loop μ-loop
-read-number-requires c κs = rw (c .end-before .ensures) (end-ends _)
+unfolding ends
+read-number-requires c κs = refl
 
 enum-known-number : tie.Need-enum-known-number Inv-loop μ-loop
 enum-known-number c = search needs
@@ -50,23 +53,25 @@ enum-known-number c = search needs
 enum-told : tie.Need-enum-told Inv-loop μ-loop
 enum-told c = search needs
 
+sub-has-fields : tie.Need-sub-has-fields Inv-loop μ-loop
+sub-has-fields c = omega arith
+
 has-fields-requires : tie.Need-has-fields-requires Inv-loop μ-loop
 has-fields-requires c κs = search needs
 
 same-length : tie.Need-same-length Inv-loop μ-loop
 same-length c = omega arith
 
-returns : tie.Need-returns Inv-loop μ-loop
-returns c = let l = c .before .before .before .before .before .before .before .loop in
-    row-malformed (so (c .before .before .before .before .before .before)) {j = length (l .row) - l .i - 1} (omega arith)
-    (ap (fieldMeans _) (sym (c .before .before .enum-told .given .1)) ∙ looked (c .before .before .before .before))
-    (sym (c .if1 .taken) ∙ c .before .has-fields .ensures)
+returns-2 : tie.Need-returns-2 Inv-loop μ-loop
+returns-2 c = let l = c .before .before .before .before .before .before .loop in
+    let j = length (l .row) - l .i - 1 in
+    row-malformed (so (c .before .before .before .before .before)) {j = j} (omega arith) (ap (fieldMeans _) (sym (c .before .before .enum-told .given .1)) ∙ c .before .before .before .before .read-number .ensures ∙ ap (λ e. numberBy e (drop (l .next) (c .before .before .before .before .before .before .before .before .before .before .args .text .now))) (end-other j (λ z. omega arith))) (sym (c .if2 .taken) ∙ c .before .has-fields .ensures)
 
 same-length-2 : tie.Need-same-length-2 Inv-loop μ-loop
 same-length-2 c = omega arith
 
-returns-2 : tie.Need-returns-2 Inv-loop μ-loop
-returns-2 c = row-missing (so (c .before .before .before .before .before .before)) (sym (c .if1 .left) ∙ c .before .has-fields .ensures)
+returns-3 : tie.Need-returns-3 Inv-loop μ-loop
+returns-3 c = row-missing (so (c .before .before .before .before .before)) (sym (c .if2 .left) ∙ c .before .has-fields .ensures)
 
 mul-row : tie.Need-mul-row Inv-loop μ-loop
 mul-row c = omega arith
@@ -81,19 +86,55 @@ loop-less : tie.Need-loop-less Inv-loop μ-loop
 loop-less c = omega arith
 
 loop-again : tie.Need-loop-again Inv-loop μ-loop
-loop-again c = let l = c .before .before .before .before .before .before .loop in
+loop-again c = let l = c .before .before .before .before .before .loop in
     let a = c .before .before .before .before .before .before .before .before .before .args in
     let v = c .before .number .given in
-    let left : length (l .row) - l .i - 1 ≡ length (a .row .now) - (l .i + 1) = omega arith in
-    let x = row-more (so (c .before .before .before .before .before)) {j = length (l .row) - l .i - 1} (omega arith) {n = v .0 .0} {after = v .0 .1 .0} (omega arith)
-    (ap (fieldMeans _) (sym (v .1)) ∙ looked (c .before .before .before)) in
+    let j = length (l .row) - l .i - 1 in
+    let left : j ≡ length (a .row .now) - (l .i + 1) = omega arith in
+    let x = row-more (so (c .before .before .before .before)) {j = j} (omega arith) {n = v .0 .0} {after = v .0 .1 .0} (omega arith) (ap (fieldMeans _) (sym (v .1)) ∙ c .before .before .before .read-number .ensures ∙ ap (λ e. numberBy e (drop (l .next) (c .before .before .before .before .before .before .before .before .before .args .text .now))) (end-other j (λ z. omega arith))) in
     (omega arith, length-set (l .row) (l .i) (v .0 .0) ∙ l .inv .1, rw left at x)
+
+read-number-requires-2 : tie.Need-read-number-requires-2 Inv-loop μ-loop
+unfolding ends
+read-number-requires-2 c κs = refl
+
+enum-known-number-2 : tie.Need-enum-known-number-2 Inv-loop μ-loop
+enum-known-number-2 c = search needs
+
+enum-told-2 : tie.Need-enum-told-2 Inv-loop μ-loop
+enum-told-2 c = search needs
+
+has-fields-requires-2 : tie.Need-has-fields-requires-2 Inv-loop μ-loop
+has-fields-requires-2 c κs = search needs
 
 same-length-3 : tie.Need-same-length-3 Inv-loop μ-loop
 same-length-3 c = omega arith
 
-returns-3 : tie.Need-returns-3 Inv-loop μ-loop
-returns-3 c = row-end (c .before .loop .inv .2) (omega arith) (omega arith)
+returns-4 : tie.Need-returns-4 Inv-loop μ-loop
+returns-4 c = row-malformed (one-left (c .before .before .before .before .before)) {j = 0} refl (ap (fieldMeans _) (sym (c .before .before .enum-told2 .given .1)) ∙ c .before .before .before .before .read-number2 .ensures ∙ ap (λ e. numberBy e (drop (c .before .before .before .before .before .before .loop .next) (c .before .before .before .before .before .before .before .before .before .before .args .text .now))) (end-last 0 refl)) (sym (c .if3 .taken) ∙ c .before .has-fields2 .ensures)
+
+same-length-4 : tie.Need-same-length-4 Inv-loop μ-loop
+same-length-4 c = omega arith
+
+returns-5 : tie.Need-returns-5 Inv-loop μ-loop
+returns-5 c = row-missing (one-left (c .before .before .before .before .before)) (sym (c .if3 .left) ∙ c .before .has-fields2 .ensures)
+
+mul-row-2 : tie.Need-mul-row-2 Inv-loop μ-loop
+mul-row-2 c = omega arith
+
+slice-write-row-2 : tie.Need-slice-write-row-2 Inv-loop μ-loop
+slice-write-row-2 c = omega arith
+
+same-length-5 : tie.Need-same-length-5 Inv-loop μ-loop
+same-length-5 c = let l = c .before .before .before .before .before .loop in
+    omega (arith, length-set (l .row) (length (c .before .before .before .before .before .before .before .before .before .args .row .now) - 1) (c .before .number2 .given .0 .0), l .inv .1)
+
+returns-6 : tie.Need-returns-6 Inv-loop μ-loop
+returns-6 c = let l = c .before .before .before .before .before .loop in
+    let a = c .before .before .before .before .before .before .before .before .before .args in
+    let v = c .before .number2 .given in
+    let x = row-more (one-left (c .before .before .before .before)) {j = 0} refl {n = v .0 .0} {after = v .0 .1 .0} (omega arith) (ap (fieldMeans _) (sym (v .1)) ∙ c .before .before .before .read-number2 .ensures ∙ ap (λ e. numberBy e (drop (l .next) (c .before .before .before .before .before .before .before .before .before .args .text .now))) (end-last 0 refl)) in
+    row-end x refl (omega (arith, length-set (l .row) (length (a .row .now) - 1) (v .0 .0)))
 
 pub read-row-spec : {M : Type 1} → statement M
 read-row-spec =
@@ -101,22 +142,32 @@ read-row-spec =
     (tie.spec
     Inv-loop
     μ-loop
+    returns
+    sub-last
     loop-holds
-    sub-left
-    sub-end-before
-    end-before-requires
     read-number-requires
     enum-known-number
     enum-told
+    sub-has-fields
     has-fields-requires
     same-length
-    returns
-    same-length-2
     returns-2
+    same-length-2
+    returns-3
     mul-row
     slice-write-row
     add-i
     loop-less
     loop-again
+    read-number-requires-2
+    enum-known-number-2
+    enum-told-2
+    has-fields-requires-2
     same-length-3
-    returns-3)
+    returns-4
+    same-length-4
+    returns-5
+    mul-row-2
+    slice-write-row-2
+    same-length-5
+    returns-6)

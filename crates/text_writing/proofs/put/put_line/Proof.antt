@@ -1,5 +1,4 @@
 -- `put::put_line` meets its contract: the line is copied to the part of the text from its index on.
---
 use borrow.Author.Needs.{needs}
 use Rattle.text_writing.proofs.PutLaws.{put-part}
 use Rattle.text_writing.proofs.put.put_line.Statement.{statement}

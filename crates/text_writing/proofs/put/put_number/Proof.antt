@@ -1,5 +1,4 @@
 -- `put::put_number` meets its contract. The loop's invariant: the digits from index `i` on are put, and those before it are the digits of `rest`.
---
 use Prim.Native.Nat.{_+_, _-_, _<_}
 use mathlib.Core.Path.{_∙_}
 use native.Mathlib.Omega.{arith}

@@ -1,5 +1,4 @@
 -- `row::put_row` meets its contract. The loop's invariant: once the rest of the line is put, the line is.
---
 use Prim.Native.Nat.{_+_, _-_, _≤_, _<_}
 use native.Mathlib.Omega.{arith}
 use lib.ListN.{length, getD, drop}

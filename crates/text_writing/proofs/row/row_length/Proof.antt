@@ -1,5 +1,4 @@
 -- `row::row_length` meets its contract. The loop's invariant: the sum with the length of the rest of the line is the length of the line, and each number passed gave at most 11.
---
 use Prim.Native.Nat.{_+_, _*_, _-_, _≤_}
 use mathlib.Core.Path.{_≡_, ap}
 use native.Mathlib.Omega.{arith}

@@ -1,5 +1,4 @@
 -- `table::put_rows` meets its contract. The loop's invariant: the lines of the first `i` rows are put.
---
 use Prim.Native.Nat.{ℕ, _+_, _-_, _≤_}
 use mathlib.Core.Path.{_≡_, refl, ap, _∙_}
 use mathlib.Core.List.{List, [], _∷_}

@@ -1,5 +1,4 @@
 -- `table::rows_length` meets its contract. The loop's invariant: the sum is the length of the lines passed, at most 22 bytes each.
---
 use Prim.Native.Nat.{_*_, _-_, _≤_}
 use mathlib.Core.Path.{_≡_, refl, ap, _∙_}
 use mathlib.Core.List.{[], _∷_}

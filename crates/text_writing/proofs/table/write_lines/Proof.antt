@@ -1,5 +1,4 @@
 -- `table::write_lines` meets its contract: the length is known before a byte is put, and the head and the lines are put one after the other.
---
 use mathlib.Core.List.{List, [], _∷_}
 use native.Mathlib.Omega.{arith}
 use Prim.Native.Nat.{ℕ}
