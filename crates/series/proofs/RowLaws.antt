@@ -62,8 +62,3 @@ pub passed-append : (xs ys : List Row) → NoneApplies (xs ++ ys) → NoneApplie
 unfolding NoneApplies
 passed-append [] ys h = (tt, h)
 passed-append (x ∷ xs) ys h = let rest = passed-append xs ys (h .1) in ((h .0, rest .0), rest .1)
-
-pub append-passed : (xs ys : List Row) → NoneApplies xs → NoneApplies ys → NoneApplies (xs ++ ys)
-unfolding NoneApplies
-append-passed [] ys h k = k
-append-passed (x ∷ xs) ys h k = (h .0, append-passed xs ys (h .1) k)

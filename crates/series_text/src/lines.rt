@@ -3,9 +3,9 @@ use crate::field::Found;
 use crate::field::find_end;
 use crate::letters::Named;
 use crate::letters::method_by;
+use crate::names::Heading;
 use crate::names::Names;
-use crate::names::read_position_names;
-use crate::names::read_terms_names;
+use crate::names::read_names;
 use crate::row::Fields;
 use crate::row::read_row;
 use series::Contracts;
@@ -79,13 +79,13 @@ pub fn read_head(text: &[u8]) -> TermsLine
     if text.len() > 32768 {
         return TermsLine::Refused(Refusal::TextTooLong);
     }
-    let Names::Line(_, line2) = read_terms_names(text, 0) else {
+    let Names::Line(_, line2) = read_names(text, 0, Heading::Terms) else {
         return TermsLine::Refused(Refusal::NamesLine);
     };
     match read_terms(text, line2) {
         TermsLine::Refused(refusal) => TermsLine::Refused(refusal),
         TermsLine::Terms(terms, line3) => {
-            let Names::Line(_, lines) = read_position_names(text, line3) else {
+            let Names::Line(_, lines) = read_names(text, line3, Heading::Positions) else {
                 return TermsLine::Refused(Refusal::NamesLine);
             };
             TermsLine::Terms(terms, lines)

@@ -2,9 +2,10 @@
 use crate::field::Line;
 use crate::field::skip_line;
 ghost use mathlib.Core.Path.{_≡_};
+ghost use mathlib.Core.List.{[], _∷_};
 ghost use lib.ListN.{drop};
-ghost use Rattle.series_text.specs.Names.{line1, line3, readNames};
-ghost use Rattle.series_text.specs.Parts.{namesMean};
+ghost use Rattle.series_text.specs.Names.{afterLine, namesLine, readNames};
+ghost use Rattle.series_text.specs.Parts.{lineMeans, namesMean};
 
 // What a names line stands for: the values of line 2, or the columns of the position lines.
 pub enum Heading {
@@ -24,22 +25,22 @@ pub const TERMS_NAMES: [u8; 22] = *b"method,exercised,draw\n";
 // Line 3.
 pub const POSITION_NAMES: [u8; 14] = *b"account,short\n";
 
-// Reads line 1.
-pub fn read_terms_names(text: &[u8], at: usize) -> Names
-    ensures { λ r. ⌜ namesMean (now (text .entry)) r ≡ readNames line1 (drop at (now (text .entry))) ⌝ }
+// Compares the text at an index with the line of a heading.
+fn skip_heading(text: &[u8], at: usize, heading: Heading) -> Line
+    ensures { λ r. ⌜ lineMeans (now (text .entry)) r ≡ afterLine (namesLine heading) (drop at (now (text .entry))) ⌝ }
 {
-    let Line::Ends(next) = skip_line(text, at, &TERMS_NAMES) else {
-        return Names::Unknown;
-    };
-    Names::Line(Heading::Terms, next)
+    match heading {
+        Heading::Terms => skip_line(text, at, &TERMS_NAMES),
+        Heading::Positions => skip_line(text, at, &POSITION_NAMES),
+    }
 }
 
-// Reads line 3.
-pub fn read_position_names(text: &[u8], at: usize) -> Names
-    ensures { λ r. ⌜ namesMean (now (text .entry)) r ≡ readNames line3 (drop at (now (text .entry))) ⌝ }
+// Reads a names line that has one known heading.
+pub fn read_names(text: &[u8], at: usize, heading: Heading) -> Names
+    ensures { λ r. ⌜ namesMean (now (text .entry)) r ≡ readNames (heading ∷ []) (drop at (now (text .entry))) ⌝ }
 {
-    let Line::Ends(next) = skip_line(text, at, &POSITION_NAMES) else {
+    let Line::Ends(next) = skip_heading(text, at, heading) else {
         return Names::Unknown;
     };
-    Names::Line(Heading::Positions, next)
+    Names::Line(heading, next)
 }

@@ -15,7 +15,7 @@ use Rattle.series_text.proofs.lines.read_head.Tie as tie
 -- what line 1 and line 2 answered
 names : (c : tie.After-known-told) → let s = c .before .before .before .before .before .before .args .text .now in
     let line = c .before .line2 .given .0 in namesMean s (Names.Line (line .0) (line .1 .0)) ≡ readNames line1 s
-names c = ap (namesMean _) (sym (c .before .line2 .given .1)) ∙ c .before .before .before .read-terms-names .ensures
+names c = ap (namesMean _) (sym (c .before .line2 .given .1)) ∙ c .before .before .before .read-names .ensures
 
 terms : (c : tie.After-known-told3) → let s = c .before .before .before .before .before .before .before .before .before .before .args .text .now in
     let line = c .before .terms .given .0 in termsMeans s (TermsLine.Terms (line .0) (line .1 .0)) ≡ readTerms (drop (c .before .before .before .before .before .line2 .given .0 .1 .0) s)
@@ -24,8 +24,8 @@ terms c = ap (termsMeans _) (sym (c .before .terms .given .1)) ∙ c .before .be
 returns : tie.Need-returns
 returns c = head-long _ (c .if1 .taken)
 
-read-terms-names-requires : tie.Need-read-terms-names-requires
-read-terms-names-requires c κs = search needs
+read-names-requires : tie.Need-read-names-requires
+read-names-requires c κs = search needs
 
 enum-known-line2 : tie.Need-enum-known-line2
 enum-known-line2 c = search needs
@@ -34,7 +34,7 @@ enum-told : tie.Need-enum-told
 enum-told c = search needs
 
 returns-2 : tie.Need-returns-2
-returns-2 c = head-names _ (omega arith) (ap (namesMean _) (sym (c .enum-told .given .1)) ∙ c .before .before .read-terms-names .ensures)
+returns-2 c = head-names _ (omega arith) (ap (namesMean _) (sym (c .enum-told .given .1)) ∙ c .before .before .read-names .ensures)
 
 read-terms-requires : tie.Need-read-terms-requires
 read-terms-requires c κs = search needs
@@ -45,8 +45,8 @@ enum-known-refusal c = search needs
 enum-known-terms : tie.Need-enum-known-terms
 enum-known-terms c = search needs
 
-read-position-names-requires : tie.Need-read-position-names-requires
-read-position-names-requires c κs = search needs
+read-names-requires-2 : tie.Need-read-names-requires-2
+read-names-requires-2 c κs = search needs
 
 enum-known-lines : tie.Need-enum-known-lines
 enum-known-lines c = search needs
@@ -55,27 +55,27 @@ enum-told-2 : tie.Need-enum-told-2
 enum-told-2 c = search needs
 
 returns-3 : tie.Need-returns-3
-returns-3 c = head-columns _ (omega arith) (names (c .before .before .before .before .before .before .before)) (terms (c .before .before .before)) (ap (namesMean _) (sym (c .enum-told2 .given .1)) ∙ c .before .before .read-position-names .ensures)
+returns-3 c = head-columns _ (omega arith) (names (c .before .before .before .before .before .before .before)) (terms (c .before .before .before)) (ap (namesMean _) (sym (c .enum-told2 .given .1)) ∙ c .before .before .read-names2 .ensures)
 
 returns-4 : tie.Need-returns-4
 returns-4 c = head-terms _ (omega arith) (names (c .before .before .before .before)) (ap (termsMeans _) (sym (c .before .refusal .given .1)) ∙ c .before .before .before .read-terms .ensures)
 
 returns-5 : tie.Need-returns-5
-returns-5 c = head-all _ (omega arith) (names (c .before .before .before .before .before .before .before .before)) (terms (c .before .before .before .before)) (ap (namesMean _) (sym (c .before .lines .given .1)) ∙ c .before .before .before .read-position-names .ensures)
+returns-5 c = head-all _ (omega arith) (names (c .before .before .before .before .before .before .before .before)) (terms (c .before .before .before .before)) (ap (namesMean _) (sym (c .before .lines .given .1)) ∙ c .before .before .before .read-names2 .ensures)
 
 pub read-head-spec : {M : Type 1} → statement M
 read-head-spec =
     tie.close
     (tie.spec
     returns
-    read-terms-names-requires
+    read-names-requires
     enum-known-line2
     enum-told
     returns-2
     read-terms-requires
     enum-known-refusal
     enum-known-terms
-    read-position-names-requires
+    read-names-requires-2
     enum-known-lines
     enum-told-2
     returns-3

@@ -1,0 +1,45 @@
+-- `names::skip_heading` meets its contract: the byte strings of the code are the lines of the headings.
+use Rattle.series.specs.Ascii.{ascii}
+use Rattle.series_text.specs.Names.{namesLine}
+use borrow.Author.Needs.{needs}
+use Rattle.series_text.proofs.names.skip_heading.Statement.{statement}
+use Rattle.series_text.proofs.names.skip_heading.Tie as tie
+
+enum-told : tie.Need-enum-told
+enum-told c = search needs
+
+slice-aggregate-skip-line : tie.Need-slice-aggregate-skip-line
+slice-aggregate-skip-line c = search needs
+
+skip-line-requires : tie.Need-skip-line-requires
+skip-line-requires c κs = search needs
+
+enum-told-2 : tie.Need-enum-told-2
+enum-told-2 c = search needs
+
+slice-aggregate-skip-line-2 : tie.Need-slice-aggregate-skip-line-2
+slice-aggregate-skip-line-2 c = search needs
+
+skip-line-requires-2 : tie.Need-skip-line-requires-2
+skip-line-requires-2 c κs = search needs
+
+returns : tie.Need-returns
+unfolding namesLine ascii
+returns c = rw (c .before .before .enum-told .given .1) (c .skip-line .ensures)
+
+returns-2 : tie.Need-returns-2
+unfolding namesLine ascii
+returns-2 c = rw (c .before .before .enum-told2 .given .1) (c .skip-line2 .ensures)
+
+pub skip-heading-spec : {M : Type 1} → statement M
+skip-heading-spec =
+    tie.close
+    (tie.spec
+    enum-told
+    slice-aggregate-skip-line
+    skip-line-requires
+    enum-told-2
+    slice-aggregate-skip-line-2
+    skip-line-requires-2
+    returns
+    returns-2)
