@@ -58,13 +58,16 @@ extern "C" {
  * shorts_len    the length of shorts, equal to accounts_len
  * exercised     S, the contracts exercised, 1 to T
  * draw          W: the starting place, 1 to T. L: 1 to 10,000 ten-thousandths.
- *               P: any number; it decides who is served among equal decimal parts
+ *               P: any number; it decides who is served among equal decimal parts.
+ *               Not looked at, so 0 will do, where S equals T under W or L, and
+ *               where the list has one position under L
  * amounts       receives the contracts assigned to each position, in list order;
  *               elements past the list are kept
  * amounts_len   the length of amounts, at least accounts_len
  * total         receives T
  * further       receives, for W, the number of blocks (0 where S equals T);
  *               for P, the contracts of round two; for L, the starting place
+ *               (0 where S equals T or the list has one position)
  */
 uint32_t dilbreth_allocate(uint8_t method,
                            const uint32_t *accounts, size_t accounts_len,

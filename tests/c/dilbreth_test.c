@@ -1,4 +1,5 @@
-/* The archive and its header, from C: case M, starred series, a refusal of each call, the words for a refusal. */
+/* The archive and its header, from C: case M, starred series, series that need no draw, a refusal of each call, the
+   words for a refusal. */
 #include <inttypes.h>
 #include <stdio.h>
 #include <string.h>
@@ -36,6 +37,9 @@ static const struct series KNOWN[] = {
     {"K", DILBRETH_PRO_RATA, 3, {3, 1, 2}, 2, 0, {1, 0, 1}, 6, 2},
     {"M", DILBRETH_LOTTERY, 5, {5, 8, 2, 10, 11}, 13, 4855, {0, 0, 0, 8, 5}, 36, 18},
     {"N", DILBRETH_LOTTERY, 5, {5, 8, 2, 10, 11}, 2, 10000, {1, 0, 0, 0, 1}, 36, 36},
+    {"W, whole, no draw", DILBRETH_WHEEL, 5, {5, 8, 2, 10, 11}, 36, 0, {5, 8, 2, 10, 11}, 36, 0},
+    {"L, whole, no draw", DILBRETH_LOTTERY, 5, {5, 8, 2, 10, 11}, 36, 0, {5, 8, 2, 10, 11}, 36, 0},
+    {"L, one, no draw", DILBRETH_LOTTERY, 1, {36}, 13, 0, {13}, 36, 0},
 };
 
 static void known(const struct series *s)
@@ -96,7 +100,9 @@ static void refusals(void)
     see("allocate refuses 4", dilbreth_allocate('W', ACCOUNTS, 5, shorts, 5, 0, 0, amounts, 4, &total, &further) == 4);
     see("allocate refuses 9", dilbreth_allocate('P', ACCOUNTS, 5, shorts, 5, 37, 0, amounts, 5, &total, &further) == 9);
     see("allocate refuses 10",
-        dilbreth_allocate('W', ACCOUNTS, 5, shorts, 5, 36, 37, amounts, 5, &total, &further) == 10);
+        dilbreth_allocate('W', ACCOUNTS, 5, shorts, 5, 35, 37, amounts, 5, &total, &further) == 10);
+    see("allocate refuses 10 for one position of W",
+        dilbreth_allocate('W', ACCOUNTS, 1, shorts, 1, 4, 0, amounts, 5, &total, &further) == 10);
     see("read refuses 13", dilbreth_read((const uint8_t *)M, length - 1, amounts, 5, other, 5, &method, &exercised,
                                          &draw, &positions) == 13);
     see("read refuses 4", dilbreth_read((const uint8_t *)M, length, amounts, 5, other, 4, &method, &exercised, &draw,

@@ -1,4 +1,4 @@
-{ The unit and the archive, from Pascal: case M and a refusal, through each call. }
+{ The unit and the archive, from Pascal: case M through each call, series that need no draw, refusals. }
 program dilbreth_test;
 
 {$mode objfpc}
@@ -37,6 +37,15 @@ begin
   First := Copy(bytes, 1, count);
 end;
 
+{ Allocates the first positions of M without a draw; answers 0 or the number of the refusal. }
+function Undrawn(by: Byte; count: SizeUInt; s: LongWord): LongWord;
+begin
+  FillDWord(amounts, 6, 999);
+  total := 999;
+  further := 999;
+  Undrawn := dilbreth_allocate(by, @accounts[0], count, @shorts[0], count, s, 0, @amounts[0], 6, @total, @further);
+end;
+
 begin
   series := M;
   bytes := StringOfChar('x', 100);
@@ -52,6 +61,13 @@ begin
     and (total = 36) and (further = 18) and (CompareDWord(amounts, AMOUNTS_OF_M, 6) = 0));
   See('allocate refuses 9', dilbreth_allocate(DILBRETH_WHEEL, @accounts[0], 5, @shorts[0], 5, 37, 1,
     @amounts[0], 6, @total, @further) = 9);
+  See('allocate a whole series of W without a draw', (Undrawn(DILBRETH_WHEEL, 5, 36) = 0)
+    and (total = 36) and (further = 0) and (CompareDWord(amounts, shorts, 6) = 0));
+  See('allocate a whole series of L without a draw', (Undrawn(DILBRETH_LOTTERY, 5, 36) = 0)
+    and (total = 36) and (further = 0) and (CompareDWord(amounts, shorts, 6) = 0));
+  See('allocate one position of L without a draw', (Undrawn(DILBRETH_LOTTERY, 1, 4) = 0)
+    and (total = 5) and (further = 0) and (amounts[0] = 4) and (amounts[1] = 999));
+  See('allocate refuses 10 for one position of W', (Undrawn(DILBRETH_WHEEL, 1, 4) = 10) and (amounts[0] = 999));
   See('write', (dilbreth_write(method, exercised, draw, @accounts[0], 5, @shorts[0], 5,
     PByte(bytes), Length(bytes), @written) = 0)
     and (First(written) = series) and (bytes[written + 1] = 'x'));

@@ -1,30 +1,36 @@
 -- What the wheel and the starting number ask of a judged series, and what their answers come to.
-use Prim.Native.Nat.{ℕ, _≤_, _<_}
-use mathlib.Core.Path.{_≡_, ap, ap₂, _∙_}
-use mathlib.Core.List.{List}
+use Prim.Native.Nat.{ℕ, _≤_}
+use mathlib.Core.Path.{_≡_, refl, sym, ap, ap₂, _∙_}
+use mathlib.Core.Bool.{true, false}
+use mathlib.Core.Option.{Option, none, some}
+use mathlib.Core.List.{List, [], _∷_}
 use native.Mathlib.Omega.{arith}
+use lib.Dec.{eqb}
+use lib.ListN.{length, set}
+use borrow.Author.Tests.{eq-eqb, ne-eqb}
 use Rattle.series.specs.Results.{Result, value}
-use Rattle.series.specs.Places.{total, OnWheel}
+use Rattle.series.specs.Places.{total}
 use Rattle.series.specs.Series.{MOST_CONTRACTS}
 use Rattle.series.specs.Wheel.{wheel, blocksUsed}
-use Rattle.series.specs.Lottery.{lottery, startingPlace}
-use Rattle.series.specs.Refusals.{NoneApplies, drawRows}
+use Rattle.series.specs.Lottery.{lottery, startingPlace, unstarted, lotteryAmounts, startUsed}
+use Rattle.series.specs.Refusals.{NoneApplies, thenDrawRows}
 use Rattle.series.specs.Answers.{Allocation}
 use Rattle.series.specs.Call.{INCREMENT, assigned, further}
 use Rattle.series.specs.declared.Method.{Method}
 use Rattle.series.specs.declared.Terms.{Terms}
-use Rattle.series.proofs.CallLaws.{wheel-draw, lottery-draw, starting-on}
+use Rattle.series.proofs.CallLaws.{wheel-judged, lottery-judged, wheel-draw, lottery-draw, starting-on}
 use Rattle.allocation.specs.Stretch.{Sized}
 use Rattle.allocation.specs.Blocks.{Increment, WheelCall}
-use Rattle.allocation.specs.Lottery.{LotteryCall}
+use Rattle.allocation.specs.Lottery.{LotteryCall, DrawCall}
 use Rattle.judging.specs.Judged.{JudgedSeries}
 use Rattle.judging.specs.Assigning.{Assigns}
 
 -- an allocation by a method, with T and the further number
-abbrev answered-by : Method → ℕ → ℕ → Result Allocation
+abbrev answered-by : Method → ℕ → Option ℕ → Result Allocation
 answered-by m T f = value (record { method = m; total = T; further = f })
 
-module _ (t : Terms) (hs out : List ℕ) (T : ℕ) (judged : JudgedSeries hs T (t .exercised .0) out) (drawn : NoneApplies (drawRows t T)) where
+-- what the wheel, and assigning by a draw, ask of a judged series
+module _ (t : Terms) (hs out : List ℕ) (T : ℕ) (judged : JudgedSeries hs T (t .exercised .0) out) (draw : NoneApplies (thenDrawRows t T (length hs))) where
   abbrev S : ℕ
   S = t .exercised .0
 
@@ -38,27 +44,86 @@ module _ (t : Terms) (hs out : List ℕ) (T : ℕ) (judged : JudgedSeries hs T (
         sum = judged .sum;
         most = judged .most;
         increment = record { some = omega arith; most = omega arith; exercised-some = judged .some; exercised-most = omega (arith, judged .most, judged .small) };
-        start = wheel-draw t T e drawn;
+        start = λ part. wheel-draw t T e (wheel-judged t T (length hs) e part draw);
       }
 
-  pub start-requires : t .method ≡ Method.Lottery → (T ≤ MOST_CONTRACTS) × (t .draw ≤ 10000)
-  start-requires e = (judged .small, lottery-draw t T e drawn .high)
+  pub draw-requires : t .method ≡ Method.Lottery → DrawCall hs out T S (t .draw)
+  draw-requires e =
+      record {
+        sized = is-sized;
+        sum = judged .sum;
+        some = omega (arith, judged .some, judged .most);
+        most = judged .most;
+        drawn = λ needed. lottery-draw t T e (lottery-judged t T (length hs) e needed draw);
+      }
 
-  pub lottery-requires : t .method ≡ Method.Lottery → (p : ℕ) → p ≡ startingPlace T (t .draw) → LotteryCall hs out S p
-  lottery-requires e p q =
-      let on : OnWheel T (startingPlace T (t .draw)) = starting-on T (t .draw) (omega (arith, judged .some, judged .most)) (lottery-draw t T e drawn) in
-      record { sized = is-sized; most = omega (arith, judged .most, judged .sum); start = rw (q, ← judged .sum) on }
-
-  pub wheel-gives : t .method ≡ Method.Wheel → (b : ℕ) (vs : List ℕ) → b ≡ blocksUsed INCREMENT T S → vs ≡ wheel INCREMENT hs S (t .draw) → Assigns t hs (answered-by Method.Wheel T b) vs
+  pub wheel-gives : t .method ≡ Method.Wheel → (b : ℕ) (vs : List ℕ) → b ≡ blocksUsed INCREMENT T S → vs ≡ wheel INCREMENT hs S (t .draw) → Assigns t hs (answered-by Method.Wheel T (some b)) vs
   unfolding further assigned
   wheel-gives e b vs eb ev =
       record {
-        answered = λ accounts. rw e (ap₂ (answered-by Method.Wheel) (judged .sum) (eb ∙ ap (λ x. blocksUsed INCREMENT x S) (judged .sum)));
+        answered = λ accounts. rw e (ap₂ (λ x f. answered-by Method.Wheel x (some f)) (judged .sum) (eb ∙ ap (λ x. blocksUsed INCREMENT x S) (judged .sum)));
         written = λ accounts. rw e ev;
       }
 
-  pub lottery-gives : t .method ≡ Method.Lottery → (p : ℕ) (vs : List ℕ) → p ≡ startingPlace T (t .draw) → vs ≡ lottery hs S p → Assigns t hs (answered-by Method.Lottery T p) vs
+  pub lottery-gives : t .method ≡ Method.Lottery → (f : Option ℕ) (vs : List ℕ) → f ≡ startUsed hs S (startingPlace T (t .draw)) → vs ≡ lotteryAmounts hs S (startingPlace T (t .draw)) → Assigns t hs (answered-by Method.Lottery T f) vs
   unfolding further assigned
-  lottery-gives e p vs ep ev =
-      let q : p ≡ startingPlace (total hs) (t .draw) = ep ∙ ap (λ x. startingPlace x (t .draw)) (judged .sum) in
-      record { answered = λ accounts. rw e (ap₂ (answered-by Method.Lottery) (judged .sum) q); written = λ accounts. rw e (ev ∙ ap (lottery hs S) q) }
+  lottery-gives e f vs ef ev =
+      let place : startingPlace T (t .draw) ≡ startingPlace (total hs) (t .draw) = ap (λ x. startingPlace x (t .draw)) (judged .sum) in
+      record {
+        answered = λ accounts. rw e (ap₂ (answered-by Method.Lottery) (judged .sum) (ef ∙ ap (startUsed hs S) place));
+        written = λ accounts. rw e (ev ∙ ap (lotteryAmounts hs S) place);
+      }
+
+-- ---- assigning by a draw
+
+stored : (vs : List ℕ) (S : ℕ) → length vs ≡ 1 → set vs 0 S ≡ S ∷ []
+stored [] S l = absurd (omega arith)
+stored (v ∷ []) S l = refl
+stored (v ∷ w ∷ vs) S l = absurd (omega arith)
+
+module _ (hs out : List ℕ) (T S d : ℕ) (call : DrawCall hs out T S d) where
+  -- S equals T
+  module _ (whole : S ≡ T) where
+    is-whole : eqb S (total hs) ≡ true
+    is-whole = eq-eqb S (total hs) (whole ∙ call .sum)
+
+    pub whole-start : none ≡ startUsed hs S (startingPlace T d)
+    unfolding startUsed unstarted
+    whole-start = rw is-whole
+
+    pub whole-amounts : hs ≡ lotteryAmounts hs S (startingPlace T d)
+    unfolding lotteryAmounts
+    whole-amounts = rw is-whole
+
+  module _ (part : S ≡ T → ⊥) where
+    is-part : eqb S (total hs) ≡ false
+    is-part = ne-eqb S (total hs) (λ e. part (e ∙ sym (call .sum)))
+
+    -- one position
+    pub one-start : length hs ≡ 1 → none ≡ startUsed hs S (startingPlace T d)
+    unfolding startUsed unstarted
+    one-start one = rw (is-part, eq-eqb (length hs) 1 one)
+
+    pub one-amounts : length hs ≡ 1 → (vs : List ℕ) → length vs ≡ 1 → set vs 0 S ≡ lotteryAmounts hs S (startingPlace T d)
+    unfolding lotteryAmounts
+    one-amounts one vs l = stored vs S l ∙ rw (is-part, eq-eqb (length hs) 1 one) refl
+
+    -- a starting place is needed
+    module _ (more : length hs ≡ 1 → ⊥) where
+      needed : unstarted T (length hs) S ≡ false
+      unfolding unstarted
+      needed = rw (ne-eqb S T part, ne-eqb (length hs) 1 more)
+
+      pub place-requires : (T ≤ MOST_CONTRACTS) × (d ≤ 10000)
+      place-requires = (omega (arith, call .sum, call .sized .list), call .drawn needed .high)
+
+      pub run-requires : (p : ℕ) → p ≡ startingPlace T d → LotteryCall hs out S p
+      run-requires p e = record { sized = call .sized; most = omega (arith, call .sum, call .most); start = rw (e, ← call .sum) (starting-on T d (call .some) (call .drawn needed)) }
+
+      pub place-start : (p : ℕ) → p ≡ startingPlace T d → some p ≡ startUsed hs S (startingPlace T d)
+      unfolding startUsed unstarted
+      place-start p e = rw (is-part, ne-eqb (length hs) 1 more) (ap some e)
+
+      pub place-amounts : (p : ℕ) → p ≡ startingPlace T d → (vs : List ℕ) → vs ≡ lottery hs S p → vs ≡ lotteryAmounts hs S (startingPlace T d)
+      unfolding lotteryAmounts
+      place-amounts p e vs ev = rw (is-part, ne-eqb (length hs) 1 more) (ev ∙ ap (lottery hs S) e)

@@ -48,10 +48,10 @@ pub record Increment (I S : ℕ) : Type 0 where
   pub exercised-some : 0 < S
   pub exercised-most : S ≤ MOST_CONTRACTS
 
--- S of T contracts, in blocks of I from place p on
+-- S of T contracts, in blocks of I from place p on, which is one unless S equals T
 pub record WheelCall (hs out : List ℕ) (T S p I : ℕ) : Type 0 where
   pub sized : Sized hs out
   pub sum : T ≡ total hs
   pub most : S ≤ T
   pub increment : Increment I S
-  pub start : OnWheel T p
+  pub start : (S ≡ T → ⊥) → OnWheel T p

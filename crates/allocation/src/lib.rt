@@ -5,11 +5,11 @@ mod millionths;
 mod places;
 mod wheel;
 
+use crate::lottery::Start;
 use judging::Judged;
 use series::Answer;
 use series::Contracts;
 use series::Method;
-use series::Place;
 use series::Terms;
 ghost use lib.ListN.{length};
 ghost use Rattle.series.specs.Answers.{answerOf};
@@ -42,7 +42,7 @@ fn allocate_wheel(
                 shorts,
                 total,
                 exercised,
-                Place(draw),
+                draw,
                 Contracts(INCREMENT),
                 &mut amounts[..n],
             );
@@ -70,9 +70,10 @@ fn allocate_lottery(
         Judged::Refused(refusal) => Answer::Refused(refusal),
         Judged::Accepted(total) => {
             let n = shorts.len();
-            let start = lottery::starting_place(total, draw);
-            lottery::assign(shorts, exercised, start, &mut amounts[..n]);
-            Answer::Lottery { total, start }
+            match lottery::assign_by_draw(shorts, total, exercised, draw, &mut amounts[..n]) {
+                Start::At(start) => Answer::Lottery { total, start },
+                Start::Undrawn => Answer::LotteryUndrawn { total },
+            }
         }
     }
 }

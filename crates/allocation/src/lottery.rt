@@ -1,5 +1,6 @@
 // The starting number (L).
 use crate::lists::clear;
+use crate::lists::copy;
 use crate::places::assign_run;
 use crate::places::seek;
 use series::Contracts;
@@ -7,11 +8,17 @@ use series::Place;
 ghost use mathlib.Core.Path.{_≡_};
 ghost use Prim.Native.Nat.{_≤_};
 ghost use Rattle.series.specs.Series.{MOST_CONTRACTS};
-ghost use Rattle.series.specs.Lottery.{lottery, startingPlace};
-ghost use Rattle.allocation.specs.Lottery.{LotteryCall};
+ghost use Rattle.series.specs.Lottery.{lottery, startingPlace, lotteryAmounts, startUsed};
+ghost use Rattle.allocation.specs.Lottery.{LotteryCall, DrawCall, startOf};
+
+// Where the work starts: at the starting place, or at none where none is needed.
+pub enum Start {
+    At(Place),
+    Undrawn,
+}
 
 // The starting place: the draw in ten-thousandths of T, rounded up.
-pub fn starting_place(total: Contracts, draw: u32) -> Place
+fn starting_place(total: Contracts, draw: u32) -> Place
     requires { ⌜ (total .0 ≤ MOST_CONTRACTS) × (draw ≤ 10000) ⌝ }
     ensures { λ r. ⌜ r .0 ≡ startingPlace (total .0) draw ⌝ }
 {
@@ -19,11 +26,35 @@ pub fn starting_place(total: Contracts, draw: u32) -> Place
 }
 
 // Assigns S contracts from the starting place on.
-pub fn assign(shorts: &[u32], exercised: Contracts, start: Place, amounts: &mut [u32])
+fn assign(shorts: &[u32], exercised: Contracts, start: Place, amounts: &mut [u32])
     requires { ⌜ LotteryCall (now shorts) (now amounts) (exercised .0) (start .0) ⌝ }
     ensures { λ _. ⌜ now (amounts .exit) ≡ lottery (now (shorts .entry)) (exercised .0) (start .0) ⌝ }
 {
     clear(amounts);
     let cursor = seek(shorts, start);
     assign_run(shorts, amounts, cursor, exercised);
+}
+
+// Assigns S contracts: each position whole where S equals T; then S to a list of one position; else from the place that the draw leads to.
+pub fn assign_by_draw(
+    shorts: &[u32],
+    total: Contracts,
+    exercised: Contracts,
+    draw: u32,
+    amounts: &mut [u32],
+) -> Start
+    requires { ⌜ DrawCall (now shorts) (now amounts) (total .0) (exercised .0) draw ⌝ }
+    ensures { λ r. ⌜ startOf r ≡ startUsed (now (shorts .entry)) (exercised .0) (startingPlace (total .0) draw) ⌝ }
+    ensures { λ _. ⌜ now (amounts .exit) ≡ lotteryAmounts (now (shorts .entry)) (exercised .0) (startingPlace (total .0) draw) ⌝ }
+{
+    if exercised.0 == total.0 {
+        copy(shorts, amounts);
+    } else if shorts.len() == 1 {
+        amounts[0] = exercised.0;
+    } else {
+        let start = starting_place(total, draw);
+        assign(shorts, exercised, start, amounts);
+        return Start::At(start);
+    }
+    Start::Undrawn
 }

@@ -83,13 +83,13 @@ pub fn assign(
     shorts: &[u32],
     total: Contracts,
     exercised: Contracts,
-    start: Place,
+    draw: u32,
     increment: Contracts,
     amounts: &mut [u32],
 ) -> u32
-    requires { ⌜ WheelCall (now shorts) (now amounts) (total .0) (exercised .0) (start .0) (increment .0) ⌝ }
+    requires { ⌜ WheelCall (now shorts) (now amounts) (total .0) (exercised .0) draw (increment .0) ⌝ }
     ensures { λ r. ⌜ r ≡ blocksUsed (increment .0) (total .0) (exercised .0) ⌝ }
-    ensures { λ _. ⌜ now (amounts .exit) ≡ wheel (increment .0) (now (shorts .entry)) (exercised .0) (start .0) ⌝ }
+    ensures { λ _. ⌜ now (amounts .exit) ≡ wheel (increment .0) (now (shorts .entry)) (exercised .0) draw ⌝ }
 {
     if exercised.0 == total.0 {
         copy(shorts, amounts);
@@ -99,7 +99,7 @@ pub fn assign(
     let blocks = block_count(exercised, increment);
     let last = last_block(exercised, increment, blocks);
     let first = Wheel {
-        cursor: seek(shorts, start),
+        cursor: seek(shorts, Place(draw)),
         interval: Millionths::interval(total, blocks, increment),
         reserve: Millionths::zero(),
     };

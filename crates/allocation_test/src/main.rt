@@ -36,6 +36,7 @@ fn print_answer(answer: Answer) {
         Answer::Wheel { total, blocks } => print_allocation(b" W", total, blocks),
         Answer::ProRata { total, remainder } => print_allocation(b" P", total, remainder.0),
         Answer::Lottery { total, start } => print_allocation(b" L", total, start.0),
+        Answer::LotteryUndrawn { total } => print_allocation(b" L", total, 0),
         Answer::Refused(refusal) => print_refusal(refusal),
     }
 }
@@ -132,12 +133,27 @@ fn lottery_series() {
 fn whole() {
     let accounts = [1, 2, 3, 4, 5];
     let shorts = [5, 8, 2, 10, 11];
-    lottery(b"L, S is T", &accounts, &shorts, 36, 1);
+    lottery(b"L, S is T, draw 0", &accounts, &shorts, 36, 0);
+    lottery(b"L, S is T, draw 1", &accounts, &shorts, 36, 1);
+    lottery(
+        b"L, S is T, largest draw",
+        &accounts,
+        &shorts,
+        36,
+        4_294_967_295,
+    );
     lottery(b"L, S above T", &accounts, &shorts, 37, 1);
     wheel(b"W, S is T, draw 36", &accounts, &shorts, 36, 36);
     wheel(b"W, S is T, draw 1", &accounts, &shorts, 36, 1);
     wheel(b"W, S is T, draw 0", &accounts, &shorts, 36, 0);
     wheel(b"W, S is T, draw 37", &accounts, &shorts, 36, 37);
+    wheel(
+        b"W, S is T, largest draw",
+        &accounts,
+        &shorts,
+        36,
+        4_294_967_295,
+    );
     pro_rata(b"P, S is T", &accounts, &shorts, 36, 0);
     show(
         b"no room to spare",
@@ -146,6 +162,25 @@ fn whole() {
         &shorts,
         5,
     );
+}
+
+// A list of one position: S without a draw under L, and under W only where S is T.
+fn one_position() {
+    lottery(b"L, one position, draw 0", &[1], &[36], 13, 0);
+    lottery(b"L, one position, draw 1", &[1], &[36], 13, 1);
+    lottery(
+        b"L, one position, largest draw",
+        &[1],
+        &[36],
+        13,
+        4_294_967_295,
+    );
+    lottery(b"L, one position, S is T", &[1], &[36], 36, 0);
+    wheel(b"W, one position, S is T", &[1], &[36], 36, 0);
+    wheel(b"W, one position", &[1], &[36], 13, 36);
+    wheel(b"W, one position, draw 0", &[1], &[36], 13, 0);
+    lottery(b"8, one position", &[1], &[36], 0, 0);
+    lottery(b"9, one position", &[1], &[36], 37, 0);
 }
 
 // Draws, an account and totals as large as they may be.
@@ -218,18 +253,18 @@ fn shorts() {
 fn exercised() {
     wheel(b"8", &[1], &[36], 0, 1);
     wheel(b"8 before 10, W", &[1], &[36], 0, 0);
-    lottery(b"8 before 10, L", &[1], &[36], 0, 0);
+    lottery(b"8 before 10, L", &[1, 2], &[30, 6], 0, 0);
     wheel(b"9", &[1], &[36], 37, 1);
     wheel(b"9 before 10, W", &[1], &[36], 37, 37);
-    lottery(b"9 before 10, L", &[1], &[36], 37, 10001);
+    lottery(b"9 before 10, L", &[1, 2], &[30, 6], 37, 10001);
 }
 
 // Refusals of the draw.
 fn draws() {
-    wheel(b"10, W, draw 0", &[1], &[36], 1, 0);
-    wheel(b"10, W, draw above T", &[1], &[36], 1, 37);
-    lottery(b"10, L, draw 0", &[1], &[36], 1, 0);
-    lottery(b"10, L, draw above 10000", &[1], &[36], 1, 10001);
+    wheel(b"10, W, draw 0", &[1], &[36], 35, 0);
+    wheel(b"10, W, draw above T", &[1], &[36], 35, 37);
+    lottery(b"10, L, draw 0", &[1, 2], &[30, 6], 35, 0);
+    lottery(b"10, L, draw above 10000", &[1, 2], &[30, 6], 35, 10001);
 }
 
 // What judging answers, to the end of the line.
@@ -318,6 +353,13 @@ fn judged() {
         &[5, 3, 2],
         3,
     );
+    show_judged(
+        b"call, S is T",
+        terms(Method::Wheel, 10, 11),
+        &[1, 2, 3],
+        &[5, 3, 2],
+        3,
+    );
 }
 
 fn main() {
@@ -325,6 +367,7 @@ fn main() {
     pro_rata_series();
     lottery_series();
     whole();
+    one_position();
     largest();
     lengths();
     long_and_empty();

@@ -5,8 +5,9 @@ use mathlib.Core.List.{List, [], _∷_, map}
 use Rattle.series.specs.Ascii.{ascii}
 use Rattle.series.specs.Sums.{bit, listed}
 use Rattle.series.specs.Places.{total, next, run, within, marked, before, last, amounts}
-use Rattle.series.specs.Lottery.{startingPlace, lottery}
-use Rattle.series.specs.Refusals.{first, lengthRows, roomRows, positionRows, exercisedRows, outside, drawRows, listRows, rows, verdict}
+use Rattle.series.specs.Wheel.{wheel}
+use Rattle.series.specs.Lottery.{startingPlace, lottery, unstarted, lotteryAmounts}
+use Rattle.series.specs.Refusals.{first, lengthRows, roomRows, positionRows, exercisedRows, outside, undrawn, drawRows, thenDrawRows, listRows, rows, verdict}
 use Rattle.series.specs.Call.{assigned}
 use Rattle.series_text.specs.Numbers.{digit, digits, spelled, amountFrom, amount, numeral, number, decimalIn, decimal}
 use Rattle.series_text.specs.Fields.{Text, ends, field, past, fieldBy, endBefore, readFields, writeNumber}
@@ -32,15 +33,21 @@ cases =
     prints "" "refused\n12\n" ∷
     prints "method,exercised,draw\nX,13,4855\naccount,short\n1,5\n" "refused\n14\n" ∷
     prints "method,exercised,draw\nL,13,4855\naccount,short\n1,5\n2,8" "refused\n13\n" ∷
-    -- a refused series: no positions, accounts that fall, S above T, draw 0
+    -- a refused series: no positions, accounts that fall, S above T, draw 0 with S below T, also of one position under W
     prints "method,exercised,draw\nL,13,4855\naccount,short\n" "refused\n3\n" ∷
     prints "method,exercised,draw\nL,13,4855\naccount,short\n2,8\n1,5\n" "refused\n5\n" ∷
     prints "method,exercised,draw\nL,14,4855\naccount,short\n1,5\n2,8\n" "refused\n9\n" ∷
-    prints "method,exercised,draw\nL,13,0\naccount,short\n1,5\n2,8\n" "refused\n10\n" ∷ []
+    prints "method,exercised,draw\nL,12,0\naccount,short\n1,5\n2,8\n" "refused\n10\n" ∷
+    prints "method,exercised,draw\nW,4,0\naccount,short\n1,5\n" "refused\n10\n" ∷
+    -- S equal to T without a draw, and one position under L without a draw
+    prints "method,exercised,draw\nL,13,0\naccount,short\n1,5\n2,8\n" "account,assigned\n1,5\n2,8\n" ∷
+    prints "method,exercised,draw\nW,13,0\naccount,short\n1,5\n2,8\n" "account,assigned\n1,5\n2,8\n" ∷
+    prints "method,exercised,draw\nL,4,0\naccount,short\n1,5\n" "account,assigned\n1,4\n" ∷
+    []
 
 -- the line `unfolding` names every definition that printing computes with
 printing : Text → Text
-unfolding bit listed total next run within marked before last amounts startingPlace lottery first lengthRows roomRows positionRows exercisedRows outside drawRows listRows rows verdict assigned digit digits spelled amountFrom amount numeral number decimalIn decimal ends field past fieldBy endBefore readFields writeNumber numbers readRow readRows writeRow writeRows rowsOf column namesLine afterLine headingOr readNames letter methodBy methodOf readTerms readHead readText refusedLines assignedLines seriesOrRefusal textOrRefusal linesFor printed ascii
+unfolding bit listed total next run within marked before last amounts wheel startingPlace lottery unstarted lotteryAmounts first lengthRows roomRows positionRows exercisedRows outside undrawn drawRows thenDrawRows listRows rows verdict assigned digit digits spelled amountFrom amount numeral number decimalIn decimal ends field past fieldBy endBefore readFields writeNumber numbers readRow readRows writeRow writeRows rowsOf column namesLine afterLine headingOr readNames letter methodBy methodOf readTerms readHead readText refusedLines assignedLines seriesOrRefusal textOrRefusal linesFor printed ascii
 printing s = printed s
 
 pub known : map (λ c. printed (c .input)) cases ≡ map (λ c. c .output) cases

@@ -100,15 +100,16 @@ module _ (s : Series) where
   is-value (value T) x e = let is : allocation T ≡ x = value-is (sym e) in ap value (ap (λ (y : Allocation). y .total) is)
   is-value (refused k) x e = absurd (never k x (sym e))
 
-  -- an answer that is an allocation, whose tag is 0, 1 or 2
-  allocation-in : (a : Answer) → OneOf (0 ∷ 1 ∷ 2 ∷ []) (tagOf the-type a) → (x : Allocation) × (answerOf a ≡ value x)
+  -- an answer that is an allocation, whose tag is 0 to 3
+  allocation-in : (a : Answer) → OneOf (0 ∷ 1 ∷ 2 ∷ 3 ∷ []) (tagOf the-type a) → (x : Allocation) × (answerOf a ≡ value x)
   allocation-in (Answer.Wheel T b) k = (_, refl)
   allocation-in (Answer.ProRata T l) k = (_, refl)
   allocation-in (Answer.Lottery T p) k = (_, refl)
-  allocation-in (Answer.Refused q) k = absurd (⊎-elim (λ z. omega arith) (⊎-elim (λ z. omega arith) (λ z. omega arith)) k)
+  allocation-in (Answer.LotteryUndrawn T) k = (_, refl)
+  allocation-in (Answer.Refused q) k = absurd (⊎-elim (λ z. omega arith) (⊎-elim (λ z. omega arith) (⊎-elim (λ z. omega arith) (λ z. omega arith))) k)
 
   -- the call answered with an allocation
-  module _ (a : Answer) (k : OneOf (0 ∷ 1 ∷ 2 ∷ []) (tagOf the-type a)) (e : answerOf a ≡ answer s (length (s .shorts))) where
+  module _ (a : Answer) (k : OneOf (0 ∷ 1 ∷ 2 ∷ 3 ∷ []) (tagOf the-type a)) (e : answerOf a ≡ answer s (length (s .shorts))) where
     accepted : verdict s (length (s .shorts)) ≡ value (allocation-in a k .0 .total)
     unfolding answer
     accepted = is-value (verdict s (length (s .shorts))) (allocation-in a k .0) (sym (allocation-in a k .1) ∙ e)

@@ -9,7 +9,7 @@ use lib.ListN.{length}
 use Rattle.series.specs.Results.{Result, refused, value, refuse, after, status}
 use Rattle.series.specs.Outputs.{onto, ontoRoom}
 use Rattle.series.specs.Series.{Series, method, exercised, draw}
-use Rattle.series.specs.Answers.{Allocation}
+use Rattle.series.specs.Answers.{Allocation, handedBack}
 use Rattle.series.specs.Call.{answer, output}
 use Rattle.series.specs.declared.Method.{Method}
 use Rattle.series.specs.declared.Terms.{Terms}
@@ -47,10 +47,10 @@ module _ (l S draw : ℕ) (accounts shorts : List ℕ) where
   allocate-unknown e old T f = rw (by-unknown e) (record { answers = refl; writes = refl; hands-total = refl; hands-further = refl })
 
   pub allocate-known : (m : Method) → value m ≡ methodBy l → (t : Terms) → t ≡ termsOf m S draw → (a : Result Allocation) (old new : List ℕ) (T f : ℕ) → a ≡ answer (record { terms = t; accounts = accounts; shorts = shorts }) (length old) → new ≡ output (record { terms = t; accounts = accounts; shorts = shorts }) old
-      → Allocates (seriesBy l S draw accounts shorts) (status a) old new (record { old = T; new = after a (λ x. x .total) T }) (record { old = f; new = after a (λ x. x .further) f })
+      → Allocates (seriesBy l S draw accounts shorts) (status a) old new (record { old = T; new = after a (λ x. x .total) T }) (record { old = f; new = after a (λ x. handedBack (x .further)) f })
   unfolding called
   allocate-known m e t et a old new T f ea en =
-      rw (by-known m e, ← et) (record { answers = ap status ea; writes = en; hands-total = ap (λ r. after r (λ x. x .total) T) ea; hands-further = ap (λ r. after r (λ x. x .further) f) ea })
+      rw (by-known m e, ← et) (record { answers = ap status ea; writes = en; hands-total = ap (λ r. after r (λ x. x .total) T) ea; hands-further = ap (λ r. after r (λ x. handedBack (x .further)) f) ea })
 
   pub write-unknown : refused 14 ≡ methodBy l → (old : Text) (n : ℕ) → Writes (writtenBy (seriesBy l S draw accounts shorts) (length old)) 14 old old (record { old = n; new = n })
   unfolding writtenBy

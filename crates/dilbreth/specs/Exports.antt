@@ -7,7 +7,7 @@ use lib.ListN.{length}
 use Rattle.series.specs.Results.{Result, value, _>>=_, refuse, after, status}
 use Rattle.series.specs.Outputs.{onto}
 use Rattle.series.specs.Series.{Series, method, exercised, draw}
-use Rattle.series.specs.Answers.{Allocation}
+use Rattle.series.specs.Answers.{Allocation, handedBack}
 use Rattle.series.specs.Call.{answer, output}
 use Rattle.series_text.specs.Fields.{Text}
 use Rattle.series_text.specs.Letters.{letter, methodBy}
@@ -31,12 +31,12 @@ pub record Number : Type 0 where
   pub old : ℕ
   pub new : ℕ
 
--- the allocating call on s: its answer r, its output from old to new, T and the further number
+-- the allocating call on s: its answer r, its output from old to new, T and the further number, 0 where there is none
 pub record Allocates (s : Result Series) (r : ℕ) (old new : List ℕ) (total further : Number) : Type 0 where
   pub answers : r ≡ status (called s (length old))
   pub writes : new ≡ after s (λ t. output t old) old
   pub hands-total : total .new ≡ after (called s (length old)) (λ a. a .total) (total .old)
-  pub hands-further : further .new ≡ after (called s (length old)) (λ a. a .further) (further .old)
+  pub hands-further : further .new ≡ after (called s (length old)) (λ a. handedBack (a .further)) (further .old)
 
 -- what reading hands back of a series: the letter of its method, S, the draw and the number of positions
 pub record Reads (s : Result Series) (r : ℕ) (letters exercised′ draw′ positions : Number) : Type 0 where

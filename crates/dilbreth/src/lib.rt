@@ -64,6 +64,11 @@ pub extern "C" fn dilbreth_allocate(
             *further = start.0;
             0
         }
+        Answer::LotteryUndrawn { total: sum } => {
+            *total = sum.0;
+            *further = 0;
+            0
+        }
         Answer::Refused(refusal) => series::number(refusal),
     }
 }

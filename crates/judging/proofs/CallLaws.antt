@@ -8,7 +8,7 @@ use lib.Seq.{length-take-le}
 use Rattle.series.specs.Results.{Result, refused, value}
 use Rattle.series.specs.Outputs.{onto}
 use Rattle.series.specs.Series.{Series, exercised}
-use Rattle.series.specs.Refusals.{NoneApplies, drawRows, verdict}
+use Rattle.series.specs.Refusals.{NoneApplies, thenDrawRows, verdict}
 use Rattle.series.specs.Answers.{Allocation}
 use Rattle.series.specs.Call.{further, answer, output}
 use Rattle.series.specs.Fair.{AllocatingCall}
@@ -36,7 +36,7 @@ module _ (s : Series) (old : List ℕ) where
     pub fits : length (s .shorts) ≤ length old
     fits = verdict-room s (length old) T (sym v)
 
-    pub call-requires : JudgedSeries (s .shorts) T (exercised s) (take (length (s .shorts)) old) × NoneApplies (drawRows (s .terms) T)
+    pub call-requires : JudgedSeries (s .shorts) T (exercised s) (take (length (s .shorts)) old) × NoneApplies (thenDrawRows (s .terms) T (length (s .shorts)))
     call-requires =
         let eT = verdict-total s (length old) T (sym v) in (
           record {

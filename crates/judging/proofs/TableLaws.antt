@@ -1,7 +1,7 @@
 -- The rows of the table, as the code tries them.
 use Prim.Native.Nat.{ℕ, suc, _+_, _-_, _≤_, _<_}
 use mathlib.Core.Path.{_≡_, refl, sym, ap, ap₂, _∙_}
-use mathlib.Core.Bool.{Bool, true, false, not, _||_}
+use mathlib.Core.Bool.{Bool, true, false, not, _||_, cond}
 use mathlib.Core.List.{List, [], _∷_, _++_, append-assoc}
 use native.Mathlib.Omega.{arith}
 use native.Mathlib.Nat.{le-refl}
@@ -14,7 +14,8 @@ use borrow.Author.Tests.{lt-ltb, le-ltb, le-leb, lt-leb, eq-eqb, ne-eqb}
 use Rattle.series.specs.Results.{Result, refused, value, _>>=_}
 use Rattle.series.specs.Places.{total}
 use Rattle.series.specs.Series.{Series, MOST_POSITIONS, MOST_CONTRACTS, exercised, held, byMethod}
-use Rattle.series.specs.Refusals.{Row, _⟶_∣_, first, NoneApplies, lengthRows, roomRows, positionRows, exercisedRows, outside, drawRows, listRows, rows, verdict, listVerdict}
+use Rattle.series.specs.Lottery.{unstarted}
+use Rattle.series.specs.Refusals.{Row, _⟶_∣_, first, NoneApplies, lengthRows, roomRows, positionRows, exercisedRows, outside, undrawn, drawRows, thenDrawRows, listRows, rows, verdict, listVerdict}
 use Rattle.series.specs.declared.Method.{Method}
 use Rattle.series.specs.declared.Terms.{Terms}
 use Rattle.series.proofs.RowLaws.{rowAt, passed-first, refused-at, first-append, value-same}
@@ -173,33 +174,62 @@ judged-list accounts shorts v e =
     ∙ ap (λ b. first (lengthRows accounts shorts) (total shorts) >>= first (b ⟶ 4 ∣ positionRows 0 0 accounts shorts)) (le-ltb (length shorts) (length shorts) (le-refl (length shorts)))
     ∙ sym (first-append (lengthRows accounts shorts) (positionRows 0 0 accounts shorts) (total shorts))
 
+-- ---- decided before the draw
+
+module _ (t : Terms) (T n : ℕ) where
+  pub wheel-undrawn : t .method ≡ Method.Wheel → eqb (t .exercised .0) T ≡ undrawn t T n
+  unfolding undrawn
+  wheel-undrawn e = rw e
+
+  pub pro-rata-undrawn : t .method ≡ Method.ProRata → false ≡ undrawn t T n
+  unfolding undrawn
+  pro-rata-undrawn e = rw e
+
+  -- under L, where S equals T
+  pub lottery-undrawn : t .method ≡ Method.Lottery → eqb (t .exercised .0) T ≡ true → eqb (t .exercised .0) T ≡ undrawn t T n
+  unfolding undrawn unstarted
+  lottery-undrawn e whole = rw (e, whole)
+
+  -- under L, where it does not
+  pub lottery-undrawn-by-positions : t .method ≡ Method.Lottery → eqb (t .exercised .0) T ≡ false → eqb n 1 ≡ undrawn t T n
+  unfolding undrawn unstarted
+  lottery-undrawn-by-positions e part = rw (e, part)
+
 -- ---- what is exercised
 
-module _ (t : Terms) (T : ℕ) where
-  pub refused-nothing : t .exercised .0 ≡ 0 → refused 8 ≡ first (exercisedRows T (t .exercised .0) ++ drawRows t T) T
+module _ (t : Terms) (T n : ℕ) where
+  pub refused-nothing : t .exercised .0 ≡ 0 → refused 8 ≡ first (exercisedRows T (t .exercised .0) ++ thenDrawRows t T n) T
   unfolding exercisedRows NoneApplies rowAt
-  refused-nothing h = sym (refused-at 0 (exercisedRows T (t .exercised .0) ++ drawRows t T) T tt (eq-eqb _ 0 h))
+  refused-nothing h = sym (refused-at 0 (exercisedRows T (t .exercised .0) ++ thenDrawRows t T n) T tt (eq-eqb _ 0 h))
 
   module _ (some : t .exercised .0 ≡ 0 → ⊥) where
-    pub refused-above : T < t .exercised .0 → refused 9 ≡ first (exercisedRows T (t .exercised .0) ++ drawRows t T) T
+    pub refused-above : T < t .exercised .0 → refused 9 ≡ first (exercisedRows T (t .exercised .0) ++ thenDrawRows t T n) T
     unfolding exercisedRows NoneApplies rowAt
-    refused-above h = sym (refused-at 1 (exercisedRows T (t .exercised .0) ++ drawRows t T) T (ne-eqb _ 0 some, tt) (lt-ltb T _ h))
+    refused-above h = sym (refused-at 1 (exercisedRows T (t .exercised .0) ++ thenDrawRows t T n) T (ne-eqb _ 0 some, tt) (lt-ltb T _ h))
 
-    pub judged-draw : t .exercised .0 ≤ T → (v : Result ℕ) → v ≡ first (drawRows t T) T → v ≡ first (exercisedRows T (t .exercised .0) ++ drawRows t T) T
-    unfolding exercisedRows NoneApplies
-    judged-draw h v e = e ∙ sym (passed-first 2 (exercisedRows T (t .exercised .0) ++ drawRows t T) T (ne-eqb _ 0 some, (le-ltb T _ h, tt)))
+    module _ (h : t .exercised .0 ≤ T) (b : Bool) (u : b ≡ undrawn t T n) where
+      then-draw : first (exercisedRows T (t .exercised .0) ++ thenDrawRows t T n) T ≡ first (cond b [] (drawRows t T)) T
+      unfolding exercisedRows NoneApplies thenDrawRows
+      then-draw = passed-first 2 (exercisedRows T (t .exercised .0) ++ thenDrawRows t T n) T (ne-eqb _ 0 some, (le-ltb T _ h, tt)) ∙ ap (λ x. first (cond x [] (drawRows t T)) T) (sym u)
+
+      pub decided : b ≡ true → value T ≡ first (exercisedRows T (t .exercised .0) ++ thenDrawRows t T n) T
+      unfolding first
+      decided e = sym (then-draw ∙ ap (λ x. first (cond x [] (drawRows t T)) T) e)
+
+      pub judged-draw : b ≡ false → (v : Result ℕ) → v ≡ first (drawRows t T) T → v ≡ first (exercisedRows T (t .exercised .0) ++ thenDrawRows t T n) T
+      judged-draw e v d = d ∙ sym (then-draw ∙ ap (λ x. first (cond x [] (drawRows t T)) T) e)
 
 -- ---- the whole table
 
 -- the list's rows, and then those of what is exercised and of the draw, by the T that is handed on
-pub verdict-parts : (s : Series) (room : ℕ) → verdict s room ≡ first (listRows (s .accounts) (s .shorts) room) (held s) >>= (λ T. first (exercisedRows T (exercised s) ++ drawRows (s .terms) T) T)
+pub verdict-parts : (s : Series) (room : ℕ) → verdict s room ≡ first (listRows (s .accounts) (s .shorts) room) (held s) >>= (λ T. first (exercisedRows T (exercised s) ++ thenDrawRows (s .terms) T (length (s .shorts))) T)
 unfolding verdict rows
 verdict-parts s room =
-    first-append (listRows (s .accounts) (s .shorts) room) (exercisedRows (held s) (exercised s) ++ drawRows (s .terms) (held s)) (held s)
+    first-append (listRows (s .accounts) (s .shorts) room) (exercisedRows (held s) (exercised s) ++ thenDrawRows (s .terms) (held s) (length (s .shorts))) (held s)
     ∙ handed-on (first (listRows (s .accounts) (s .shorts) room) (held s)) refl
   where
     below : ℕ → List Row
-    below T = exercisedRows T (exercised s) ++ drawRows (s .terms) T
+    below T = exercisedRows T (exercised s) ++ thenDrawRows (s .terms) T (length (s .shorts))
 
     handed-on : (r : Result ℕ) → first (listRows (s .accounts) (s .shorts) room) (held s) ≡ r → (r >>= first (below (held s))) ≡ (r >>= (λ T. first (below T) T))
     handed-on (refused n) e = refl
@@ -207,7 +237,7 @@ verdict-parts s room =
 
 module _ (s : Series) (room : ℕ) where
   pub refused-list : (n : ℕ) → refused n ≡ first (listRows (s .accounts) (s .shorts) room) (held s) → refused n ≡ verdict s room
-  refused-list n e = sym (verdict-parts s room ∙ ap (λ r. r >>= (λ T. first (exercisedRows T (exercised s) ++ drawRows (s .terms) T) T)) (sym e))
+  refused-list n e = sym (verdict-parts s room ∙ ap (λ r. r >>= (λ T. first (exercisedRows T (exercised s) ++ thenDrawRows (s .terms) T (length (s .shorts))) T)) (sym e))
 
-  pub judged-terms : (T : ℕ) (v : Result ℕ) → value T ≡ first (listRows (s .accounts) (s .shorts) room) (held s) → v ≡ first (exercisedRows T (exercised s) ++ drawRows (s .terms) T) T → v ≡ verdict s room
-  judged-terms T v e t = t ∙ sym (verdict-parts s room ∙ ap (λ r. r >>= (λ T. first (exercisedRows T (exercised s) ++ drawRows (s .terms) T) T)) (sym e))
+  pub judged-terms : (T : ℕ) (v : Result ℕ) → value T ≡ first (listRows (s .accounts) (s .shorts) room) (held s) → v ≡ first (exercisedRows T (exercised s) ++ thenDrawRows (s .terms) T (length (s .shorts))) T → v ≡ verdict s room
+  judged-terms T v e t = t ∙ sym (verdict-parts s room ∙ ap (λ r. r >>= (λ T. first (exercisedRows T (exercised s) ++ thenDrawRows (s .terms) T (length (s .shorts))) T)) (sym e))

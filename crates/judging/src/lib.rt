@@ -8,7 +8,7 @@ ghost use mathlib.Core.Bool.{not};
 ghost use mathlib.Core.List.{_++_};
 ghost use lib.ListN.{length};
 ghost use Rattle.series.specs.Places.{total as totalOf};
-ghost use Rattle.series.specs.Refusals.{first, positionRows, listRows, exercisedRows, outside, drawRows, verdict, listVerdict};
+ghost use Rattle.series.specs.Refusals.{first, positionRows, listRows, exercisedRows, outside, undrawn, drawRows, thenDrawRows, verdict, listVerdict};
 ghost use Rattle.judging.specs.Judged.{judgedOf};
 
 // An accepted list with its total T, or the first refusal that applies.
@@ -103,16 +103,33 @@ fn judge_draw(terms: Terms, total: Contracts) -> Judged
     Judged::Refused(Refusal::DrawOutOfRange)
 }
 
-// What is exercised of T contracts, and then the draw.
-fn judge_terms(terms: Terms, total: Contracts) -> Judged
-    ensures { λ r. ⌜ judgedOf r ≡ first (exercisedRows (total .0) (terms .exercised .0) ++ drawRows terms (total .0)) (total .0) ⌝ }
+// Whether a call is decided before the draw: S equals T, under W and L; then, under L only, one position.
+fn is_undrawn(terms: Terms, total: Contracts, positions: usize) -> bool
+    ensures { λ r. ⌜ r ≡ undrawn terms (total .0) positions ⌝ }
+{
+    let method = terms.method;
+    let whole = terms.exercised.0 == total.0;
+    match method {
+        Method::Wheel => whole,
+        Method::ProRata => false,
+        Method::Lottery => whole || positions == 1,
+    }
+}
+
+// What is exercised of T contracts, and then the draw, where nothing is decided before it.
+fn judge_terms(terms: Terms, total: Contracts, positions: usize) -> Judged
+    ensures { λ r. ⌜ judgedOf r ≡ first (exercisedRows (total .0) (terms .exercised .0) ++ thenDrawRows terms (total .0) positions) (total .0) ⌝ }
 {
     let exercised = terms.exercised;
+    let undrawn = is_undrawn(terms, total, positions);
     if exercised.0 == 0 {
         return Judged::Refused(Refusal::NothingExercised);
     }
     if total.0 < exercised.0 {
         return Judged::Refused(Refusal::ExercisedAboveTotal);
+    }
+    if undrawn {
+        return Judged::Accepted(total);
     }
     judge_draw(terms, total)
 }
@@ -123,6 +140,6 @@ pub fn judge(terms: Terms, accounts: &[u32], shorts: &[u32], room: usize) -> Jud
 {
     match judge_rows(accounts, shorts, room) {
         Judged::Refused(refusal) => Judged::Refused(refusal),
-        Judged::Accepted(total) => judge_terms(terms, total),
+        Judged::Accepted(total) => judge_terms(terms, total, shorts.len()),
     }
 }

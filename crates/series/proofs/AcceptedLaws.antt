@@ -11,7 +11,7 @@ use borrow.Author.Tests.{ltb-false, eqb-false, eqb-true, not-false}
 use Rattle.series.specs.Results.{value}
 use Rattle.series.specs.Places.{total}
 use Rattle.series.specs.Series.{Series, MOST_POSITIONS, MOST_CONTRACTS, exercised, held, redrawn, byMethod}
-use Rattle.series.specs.Refusals.{Row, _⟶_∣_, NoneApplies, leftAside, aside, lengthRows, roomRows, positionRows, exercisedRows, outside, drawRows, listRows, rows, Accepted, verdict}
+use Rattle.series.specs.Refusals.{Row, _⟶_∣_, NoneApplies, leftAside, aside, lengthRows, roomRows, positionRows, exercisedRows, outside, undrawn, drawRows, thenDrawRows, listRows, rows, Accepted, verdict}
 use Rattle.series.specs.declared.Method.{Method}
 use Rattle.series.specs.declared.Terms.{Terms}
 use Rattle.series.proofs.RowLaws.{value-passed, passed-append}
@@ -52,15 +52,23 @@ aside-draw t T = by-cases (t .method)
     by-cases Method.ProRata = refl
     by-cases Method.Lottery = refl
 
+aside-then-draw : (t : Terms) (T n : ℕ) → aside (thenDrawRows t T n) ≡ []
+unfolding thenDrawRows aside
+aside-then-draw t T n = step (undrawn t T n)
+  where
+    step : (b : Bool) → aside (cond b [] (drawRows t T)) ≡ []
+    step true = refl
+    step false = aside-draw t T
+
 -- the rows that are left: neither the draw nor the room is in them
 aside-rows : (s : Series) (room : ℕ) → aside (rows s room) ≡ lengthRows (s .accounts) (s .shorts) ++ (positionRows 0 0 (s .accounts) (s .shorts) ++ exercisedRows (held s) (exercised s))
 unfolding aside leftAside rows listRows lengthRows roomRows exercisedRows
 aside-rows s room =
     let list : List Row = positionRows 0 0 (s .accounts) (s .shorts) in
-    let terms : List Row = exercisedRows (held s) (exercised s) ++ drawRows (s .terms) (held s) in
+    let terms : List Row = exercisedRows (held s) (exercised s) ++ thenDrawRows (s .terms) (held s) (length (s .shorts)) in
     ap (λ zs. lengthRows (s .accounts) (s .shorts) ++ zs)
     (aside-append list terms
-    ∙ ap₂ (λ xs ys. xs ++ ys) (aside-positions 0 0 (s .accounts) (s .shorts)) (ap (λ zs. exercisedRows (held s) (exercised s) ++ zs) (aside-draw (s .terms) (held s))))
+    ∙ ap₂ (λ xs ys. xs ++ ys) (aside-positions 0 0 (s .accounts) (s .shorts)) (ap (λ zs. exercisedRows (held s) (exercised s) ++ zs) (aside-then-draw (s .terms) (held s) (length (s .shorts)))))
 
 -- what is accepted depends on neither the draw nor the room
 pub accepted-any : (s : Series) (d room room2 : ℕ) → Accepted s room → Accepted (redrawn d s) room2

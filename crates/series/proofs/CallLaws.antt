@@ -7,12 +7,12 @@ use native.Mathlib.Omega.{arith}
 use native.Mathlib.Nat.{le-refl, mul-le-mul}
 use lib.Dec.{eqb, ltb}
 use lib.ListN.{length}
-use borrow.Author.Tests.{ltb-false, eqb-false}
+use borrow.Author.Tests.{ltb-false, eqb-false, ne-eqb}
 use Rattle.series.specs.Results.{value}
 use Rattle.series.specs.Places.{OnWheel}
 use Rattle.series.specs.Series.{Series, exercised, held}
-use Rattle.series.specs.Lottery.{startingPlace}
-use Rattle.series.specs.Refusals.{NoneApplies, lengthRows, roomRows, positionRows, exercisedRows, outside, drawRows, listRows, rows, verdict}
+use Rattle.series.specs.Lottery.{startingPlace, unstarted}
+use Rattle.series.specs.Refusals.{NoneApplies, lengthRows, roomRows, positionRows, exercisedRows, outside, undrawn, drawRows, thenDrawRows, listRows, rows, verdict}
 use Rattle.series.specs.declared.Method.{Method}
 use Rattle.series.specs.declared.Terms.{Terms}
 use Rattle.series.proofs.RowLaws.{value-passed, value-same, passed-append}
@@ -44,13 +44,29 @@ module _ (s : Series) (room T : ℕ) (v : verdict s room ≡ value T) where
   verdict-room = ltb-false _ _ (all-passed .1 .1 .1 .0)
 
   -- the draw is not turned away
-  pub draw-passes : NoneApplies (drawRows (s .terms) (held s))
+  pub draw-passes : NoneApplies (thenDrawRows (s .terms) (held s) (length (s .shorts)))
   unfolding rows listRows NoneApplies lengthRows roomRows
   draw-passes =
-      let terms = passed-append (positionRows 0 0 (s .accounts) (s .shorts)) (exercisedRows (held s) (exercised s) ++ drawRows (s .terms) (held s)) (all-passed .1 .1 .1 .1) .1 in
-      passed-append (exercisedRows (held s) (exercised s)) (drawRows (s .terms) (held s)) terms .1
+      let draws = thenDrawRows (s .terms) (held s) (length (s .shorts)) in
+      let terms = passed-append (positionRows 0 0 (s .accounts) (s .shorts)) (exercisedRows (held s) (exercised s) ++ draws) (all-passed .1 .1 .1 .1) .1 in
+      passed-append (exercisedRows (held s) (exercised s)) draws terms .1
 
--- under W the draw is a place
+-- the draw is judged where nothing is decided before it
+draw-judged : (t : Terms) (T n : ℕ) → undrawn t T n ≡ false → NoneApplies (thenDrawRows t T n) → NoneApplies (drawRows t T)
+unfolding thenDrawRows
+draw-judged t T n u h = rw u at h
+
+-- under W where S is not T
+pub wheel-judged : (t : Terms) (T n : ℕ) → t .method ≡ Method.Wheel → (t .exercised .0 ≡ T → ⊥) → NoneApplies (thenDrawRows t T n) → NoneApplies (drawRows t T)
+unfolding undrawn
+wheel-judged t T n e part = draw-judged t T n (rw (e, ne-eqb (t .exercised .0) T part))
+
+-- under L where a starting place is needed
+pub lottery-judged : (t : Terms) (T n : ℕ) → t .method ≡ Method.Lottery → unstarted T n (t .exercised .0) ≡ false → NoneApplies (thenDrawRows t T n) → NoneApplies (drawRows t T)
+unfolding undrawn
+lottery-judged t T n e needed = draw-judged t T n (rw (e, needed))
+
+-- under W a judged draw is a place
 pub wheel-draw : (t : Terms) (T : ℕ) → t .method ≡ Method.Wheel → NoneApplies (drawRows t T) → OnWheel T (t .draw)
 unfolding drawRows NoneApplies
 wheel-draw t T e h = not-outside T (t .draw) ((rw e at h) .0)

@@ -1,9 +1,12 @@
 -- DEMAND 3, proved of the definitions for every accepted series s: none of the call's refusals applies to it, 4 and 10 left aside.
 -- T is held s, S is exercised s, and i is any position of the list.
 use Prim.Native.Nat.{ℕ, suc, _*_, _≤_, _<_}
-use mathlib.Core.Path.{_≡_, refl, ap}
+use mathlib.Core.Path.{_≡_, refl, sym, ap, _∙_}
+use mathlib.Core.Bool.{Bool, true, false, cond}
+use mathlib.Core.Option.{none, some}
 use mathlib.Core.List.{List}
 use native.Mathlib.Omega.{arith}
+use native.Mathlib.Decide.{ℕ-discrete}
 use lib.ListN.{length, getD, drop}
 use lib.Seq.{take-at}
 use Rattle.series.specs.Results.{Result, refused, value, _>>=_, after}
@@ -12,19 +15,18 @@ use Rattle.series.specs.Places.{total, run, marked, OnWheel, overPlaces}
 use Rattle.series.specs.Series.{Series, method, exercised, draw, held, byMethod}
 use Rattle.series.specs.Wheel.{ONE, blocks, wheelMarks, wheel}
 use Rattle.series.specs.ProRata.{proRata}
-use Rattle.series.specs.Lottery.{startingPlace, lottery}
+use Rattle.series.specs.Lottery.{startingPlace, lottery, unstarted, lotteryAmounts, startUsed}
 use Rattle.series.specs.Refusals.{verdict, Accepted}
 use Rattle.series.specs.Answers.{Allocation}
 use Rattle.series.specs.Call.{INCREMENT, assigned, further, answer, output}
 use Rattle.series.specs.Fair.{Near, Fair, FairOutput}
 use Rattle.series.specs.declared.Method.{Method}
 use Rattle.series.proofs.AcceptedLaws.{Facts, accepted-facts, verdict-accepted}
-use Rattle.series.proofs.CallLaws.{draw-passes, wheel-draw, lottery-draw, starting-on}
+use Rattle.series.proofs.CallLaws.{draw-passes, wheel-judged, lottery-judged, wheel-draw, lottery-draw, starting-on}
 use Rattle.series.proofs.SumLaws.{length-listed}
-use Rattle.series.proofs.PlaceLaws.{length-amounts}
 use Rattle.series.proofs.ProRataLaws.{pro-rata-sum, pro-rata-most, pro-rata-share}
-use Rattle.series.proofs.WheelLaws.{length-wheel, wheel-sum, wheel-most, wheel-share, wheel-once}
-use Rattle.series.proofs.LotteryLaws.{lottery-sum, lottery-most, lottery-share, lottery-once}
+use Rattle.series.proofs.WheelLaws.{length-wheel, wheel-whole, wheel-sum, wheel-most, wheel-share, wheel-once}
+use Rattle.series.proofs.LotteryLaws.{length-lottery-amounts, lottery-amounts, unstarted-any, lottery-sum, lottery-most, lottery-share, lottery-once}
 
 module _ (s : Series) (room : ℕ) (ok : Accepted s room) where
   facts : Facts s
@@ -84,38 +86,88 @@ module _ (s : Series) (room : ℕ) (ok : Accepted s room) where
       record { below = share .0; above = share .1 }
 
 pub length-assigned : (s : Series) → length (assigned s) ≡ length (s .shorts)
-unfolding assigned lottery proRata
+unfolding assigned proRata
 length-assigned s = by-cases (method s)
   where
-    by-cases : (m : Method) → length (byMethod m (wheel INCREMENT (s .shorts) (exercised s) (draw s)) (proRata (s .shorts) (exercised s) (draw s)) (lottery (s .shorts) (exercised s) (startingPlace (held s) (draw s)))) ≡ length (s .shorts)
+    by-cases : (m : Method) → length (byMethod m (wheel INCREMENT (s .shorts) (exercised s) (draw s)) (proRata (s .shorts) (exercised s) (draw s)) (lotteryAmounts (s .shorts) (exercised s) (startingPlace (held s) (draw s)))) ≡ length (s .shorts)
     by-cases Method.Wheel = length-wheel INCREMENT (s .shorts) (exercised s) (draw s)
     by-cases Method.ProRata = length-listed _ (length (s .shorts))
-    by-cases Method.Lottery = length-amounts (s .shorts) (run (held s) (exercised s) (startingPlace (held s) (draw s)))
+    by-cases Method.Lottery = length-lottery-amounts (s .shorts) (exercised s) (startingPlace (held s) (draw s))
 
--- what a method's amounts need to be fair where the method is not P
-not-near : (s : Series) (vs : List ℕ) → (method s ≡ Method.ProRata → ⊥) → total vs ≡ exercised s → ((i : ℕ) → i < length (s .shorts) → getD vs i 0 ≤ getD (s .shorts) i 0) → Fair s vs
-not-near s vs other sum most = record { adds-up = sum; at-most = most; near = λ e. absurd (other e) }
+-- the amounts vs are those from a place on the wheel
+pub record FromPlace (T : ℕ) (from : ℕ → List ℕ) (vs : List ℕ) : Type 0 where
+  pub place : ℕ
+  pub on : OnWheel T place
+  pub same : vs ≡ from place
 
-assigned-fair : (s : Series) (room T : ℕ) → verdict s room ≡ value T → Fair s (assigned s)
-unfolding assigned
-assigned-fair s room T v = by-cases (method s) refl
-  where
-    ok : Accepted s room
-    ok = verdict-accepted s room T v
+module _ (s : Series) (room T : ℕ) (v : verdict s room ≡ value T) where
+  ok : Accepted s room
+  ok = verdict-accepted s room T v
 
-    by-cases : (m : Method) → method s ≡ m → Fair s (byMethod m (wheel INCREMENT (s .shorts) (exercised s) (draw s)) (proRata (s .shorts) (exercised s) (draw s)) (lottery (s .shorts) (exercised s) (startingPlace (held s) (draw s))))
-    by-cases Method.Wheel e =
-        let on = wheel-draw (s .terms) (held s) e (draw-passes s room T v) in
-        not-near s _ (λ p. let z : _≡_ {A = ℕ} 0 1 = cc in omega arith) (wheel-adds-up s room ok (draw s) on) (wheel-at-most s room ok (draw s) on)
-    by-cases Method.ProRata e =
-        record {
-          adds-up = pro-rata-adds-up s room ok (draw s);
-          at-most = λ i _. pro-rata-at-most s room ok (draw s) i;
-          near = λ _. pro-rata-near s room ok (draw s);
-        }
-    by-cases Method.Lottery e =
-        let on = starting-on (held s) (draw s) (some-total s room ok) (lottery-draw (s .terms) (held s) e (draw-passes s room T v)) in
-        not-near s _ (λ p. let z : _≡_ {A = ℕ} 0 1 = cc in omega arith) (lottery-adds-up s room ok (startingPlace (held s) (draw s)) on) (lottery-at-most s room ok (startingPlace (held s) (draw s)) on)
+  first-place : OnWheel (held s) 1
+  first-place = record { low = omega arith; high = some-total s room ok }
+
+  -- W: an allocation is one from a place on the wheel, drawn or not
+  pub wheel-from : method s ≡ Method.Wheel → FromPlace (held s) (wheel INCREMENT (s .shorts) (exercised s)) (wheel INCREMENT (s .shorts) (exercised s) (draw s))
+  wheel-from e =
+      elim (ℕ-discrete (exercised s) (held s)) [
+        | yes whole ↦ record { place = 1; on = first-place; same = wheel-whole INCREMENT (s .shorts) (exercised s) (draw s) whole ∙ sym (wheel-whole INCREMENT (s .shorts) (exercised s) 1 whole) }
+        | no part ↦ record { place = draw s; on = wheel-draw (s .terms) (held s) e (wheel-judged (s .terms) (held s) (length (s .shorts)) e part (draw-passes s room T v)); same = refl }
+      ]
+
+  drawn-place : method s ≡ Method.Lottery → unstarted (held s) (length (s .shorts)) (exercised s) ≡ false → OnWheel (held s) (startingPlace (held s) (draw s))
+  drawn-place e needed =
+      starting-on (held s) (draw s) (some-total s room ok) (lottery-draw (s .terms) (held s) e (lottery-judged (s .terms) (held s) (length (s .shorts)) e needed (draw-passes s room T v)))
+
+  -- L: so is one by the starting number
+  pub lottery-from : method s ≡ Method.Lottery → FromPlace (held s) (lottery (s .shorts) (exercised s)) (lotteryAmounts (s .shorts) (exercised s) (startingPlace (held s) (draw s)))
+  lottery-from e = by-cases (unstarted (held s) (length (s .shorts)) (exercised s)) refl
+    where
+      p : ℕ
+      p = startingPlace (held s) (draw s)
+
+      by-cases : (u : Bool) → unstarted (held s) (length (s .shorts)) (exercised s) ≡ u → FromPlace (held s) (lottery (s .shorts) (exercised s)) (lotteryAmounts (s .shorts) (exercised s) p)
+      by-cases true u = record { place = 1; on = first-place; same = unstarted-any (s .shorts) (exercised s) u p 1 ∙ lottery-amounts (s .shorts) (exercised s) 1 first-place }
+      by-cases false u = record { place = p; on = drawn-place e u; same = lottery-amounts (s .shorts) (exercised s) p (drawn-place e u) }
+
+  started : method s ≡ Method.Lottery → further s ≡ startUsed (s .shorts) (exercised s) (startingPlace (held s) (draw s))
+  unfolding further
+  started e = rw e refl
+
+  -- L: a starting place that is handed back is a place on the wheel
+  pub start-on-wheel : method s ≡ Method.Lottery → (p : ℕ) → further s ≡ some p → OnWheel (held s) p
+  unfolding startUsed
+  start-on-wheel e p h = by-cases (unstarted (held s) (length (s .shorts)) (exercised s)) refl (sym (started e) ∙ h)
+    where
+      by-cases : (u : Bool) → unstarted (held s) (length (s .shorts)) (exercised s) ≡ u → cond u none (some (startingPlace (held s) (draw s))) ≡ some p → OnWheel (held s) p
+      by-cases true u k = let z : _≡_ {A = ℕ} 0 1 = cc in absurd (omega arith)
+      by-cases false u k = let same : startingPlace (held s) (draw s) ≡ p = cc in rw (← same) (drawn-place e u)
+
+  -- what amounts from a place need to be fair, the method not being P
+  fair-from : (from : ℕ → List ℕ) (vs : List ℕ) → FromPlace (held s) from vs → (method s ≡ Method.ProRata → ⊥)
+      → ((p : ℕ) → OnWheel (held s) p → total (from p) ≡ exercised s)
+      → ((p : ℕ) → OnWheel (held s) p → (i : ℕ) → i < length (s .shorts) → getD (from p) i 0 ≤ getD (s .shorts) i 0)
+      → Fair s vs
+  fair-from from vs f other sum most =
+      record {
+        adds-up = ap total (f .same) ∙ sum (f .place) (f .on);
+        at-most = λ i h. rw (f .same) (most (f .place) (f .on) i h);
+        near = λ e. absurd (other e);
+      }
+
+  assigned-fair : Fair s (assigned s)
+  unfolding assigned
+  assigned-fair = by-cases (method s) refl
+    where
+      by-cases : (m : Method) → method s ≡ m → Fair s (byMethod m (wheel INCREMENT (s .shorts) (exercised s) (draw s)) (proRata (s .shorts) (exercised s) (draw s)) (lotteryAmounts (s .shorts) (exercised s) (startingPlace (held s) (draw s))))
+      by-cases Method.Wheel e = fair-from (wheel INCREMENT (s .shorts) (exercised s)) _ (wheel-from e) (λ p. let z : _≡_ {A = ℕ} 0 1 = cc in omega arith) (wheel-adds-up s room ok) (wheel-at-most s room ok)
+      by-cases Method.ProRata e =
+          record {
+            adds-up = pro-rata-adds-up s room ok (draw s);
+            at-most = λ i _. pro-rata-at-most s room ok (draw s) i;
+            near = λ _. pro-rata-near s room ok (draw s);
+          }
+      by-cases Method.Lottery e = fair-from (lottery (s .shorts) (exercised s)) _ (lottery-from e) (λ p. let z : _≡_ {A = ℕ} 0 1 = cc in omega arith) (lottery-adds-up s room ok) (lottery-at-most s room ok)
 
 -- a call that is not turned away
 allocation-fair : (s : Series) (old : List ℕ) (T : ℕ) → verdict s (length old) ≡ value T → FairOutput (answer s (length old)) s (output s old)

@@ -6,9 +6,10 @@ use lib.ListN.{replicate}
 use Rattle.series.specs.Places.{total}
 use Rattle.series.specs.Wheel.{interval}
 use Rattle.series.specs.ProRata.{percentage}
+use Rattle.series.specs.Lottery.{unstarted}
 use Rattle.series.specs.Results.{Result, refused}
 use Rattle.series.specs.Series.{Series}
-use Rattle.series.specs.Refusals.{first, lengthRows, roomRows, positionRows, exercisedRows, outside, drawRows, listRows, rows, verdict}
+use Rattle.series.specs.Refusals.{first, lengthRows, roomRows, positionRows, exercisedRows, outside, undrawn, drawRows, thenDrawRows, listRows, rows, verdict}
 use Rattle.series.specs.declared.Method.{Method}
 use Rattle.series.specs.declared.Method.the-variants.{Wheel, Lottery}
 
@@ -35,22 +36,22 @@ call m accounts shorts S draw room =
     }
 
 pub verdictOn : Call → Result ℕ
-unfolding total first lengthRows roomRows positionRows exercisedRows outside drawRows listRows rows verdict
+unfolding total unstarted first lengthRows roomRows positionRows exercisedRows outside undrawn drawRows thenDrawRows listRows rows verdict
 verdictOn c = verdict (c .series) (c .room)
 
--- calls that meet 1 and 2, 2 and 4, 3 and 8, 4 and 5, 5 and 6, 6 and then 7, 7 and then 5, 7 and 8, 8 and 10, 9 and 10; and each of them meets 10 too
+-- calls that meet 1 and 2, 2 and 4, 3 and 8, 4 and 5, 5 and 6, 6 and then 7, 7 and then 5, 7 and 8, 8 and 10, 9 and 10; and each of them but the third, whose S equals T, meets 10 too
 pub twice : List Call
 twice =
     call Lottery (replicate 4096 1) (replicate 4097 1) 1 0 4097 ∷
     call Lottery (replicate 4097 1) (replicate 4097 1) 1 0 4096 ∷
     call Lottery [] [] 0 0 0 ∷
-    call Wheel (0 ∷ []) (1 ∷ []) 1 0 0 ∷
-    call Wheel (1 ∷ 1 ∷ []) (1 ∷ 0 ∷ []) 1 0 2 ∷
+    call Wheel (0 ∷ []) (2 ∷ []) 1 0 0 ∷
+    call Wheel (1 ∷ 1 ∷ []) (2 ∷ 0 ∷ []) 1 0 2 ∷
     call Wheel (1 ∷ 2 ∷ []) (0 ∷ 10000001 ∷ []) 1 0 2 ∷
     call Wheel (1 ∷ 1 ∷ []) (10000001 ∷ 1 ∷ []) 1 0 2 ∷
     call Wheel (1 ∷ []) (10000001 ∷ []) 0 0 1 ∷
-    call Lottery (1 ∷ []) (1 ∷ []) 0 0 1 ∷
-    call Lottery (1 ∷ []) (1 ∷ []) 2 0 1 ∷
+    call Lottery (1 ∷ 2 ∷ []) (1 ∷ 1 ∷ []) 0 0 2 ∷
+    call Lottery (1 ∷ 2 ∷ []) (1 ∷ 1 ∷ []) 3 0 2 ∷
     []
 
 -- the first that applies is met

@@ -1,6 +1,7 @@
 -- Document 01's series with known amounts, proved of the definitions by computation.
 use Prim.Native.Nat.{ℕ, suc, _+_, _-_}
 use mathlib.Core.Path.{_≡_, refl}
+use mathlib.Core.Option.{none, some}
 use mathlib.Core.List.{List, [], _∷_, _++_, map}
 use lib.ListN.{length, replicate}
 use Rattle.series.specs.Results.{Result, refused, value}
@@ -10,8 +11,8 @@ use Rattle.series.specs.Places.{total, next, steps, run, within, marked,
 use Rattle.series.specs.Series.{Series, held}
 use Rattle.series.specs.Wheel.{blocks, interval, marks, wheelMarks, wheel, blocksUsed}
 use Rattle.series.specs.ProRata.{percentage, assignmentAmount, wholePart, decimalPart, roundOne, decimals, remainder, larger, equal, turn, rank, roundTwo, proRata}
-use Rattle.series.specs.Lottery.{startingPlace, lottery}
-use Rattle.series.specs.Refusals.{first, lengthRows, roomRows, positionRows, exercisedRows, outside, drawRows, listRows, rows, verdict, leftAside, aside, Accepted}
+use Rattle.series.specs.Lottery.{startingPlace, lottery, unstarted, lotteryAmounts, startUsed}
+use Rattle.series.specs.Refusals.{first, lengthRows, roomRows, positionRows, exercisedRows, outside, undrawn, drawRows, thenDrawRows, listRows, rows, verdict, leftAside, aside, Accepted}
 use Rattle.series.specs.Answers.{Allocation}
 use Rattle.series.specs.Call.{assigned, further, answer, output}
 use Rattle.series.specs.declared.Method.{Method}
@@ -19,7 +20,7 @@ use Rattle.series.specs.declared.Method.the-variants.{Wheel, ProRata, Lo
 use Rattle.series.proofs.RowLaws.{value-passed}
 
 -- a series with accounts 1, 2, ..
-pub series : Method → List ℕ → ℕ → ℕ → Series
+unfoldable pub series : Method → List ℕ → ℕ → ℕ → Series
 series m hs S draw =
     record {
       terms = record { method = m; exercised = record { 0 = S }; draw = draw };
@@ -33,17 +34,25 @@ pub record Called : Type 0 where
   pub written : List ℕ
 
 -- the line `unfolding` names every definition that the call's answer and output compute with
-pub calledOn : Series → Called
-unfolding series onto sumBelow bit countBelow listed total next steps run within marked before last amounts blocks interval marks wheelMarks wheel blocksUsed percentage assignmentAmount wholePart decimalPart roundOne decimals remainder larger equal turn rank roundTwo proRata startingPlace lottery first lengthRows roomRows positionRows exercisedRows outside drawRows listRows rows verdict assigned further answer output
+unfoldable pub calledOn : Series → Called
+unfolding series onto sumBelow bit countBelow listed total next steps run within marked before last amounts blocks interval marks wheelMarks wheel blocksUsed percentage assignmentAmount wholePart decimalPart roundOne decimals remainder larger equal turn rank roundTwo proRata startingPlace lottery unstarted lotteryAmounts startUsed first lengthRows roomRows positionRows exercisedRows outside undrawn drawRows thenDrawRows listRows rows verdict assigned further answer output
 calledOn s =
     let old : List ℕ = replicate (suc (length (s .shorts))) 7 in
     record { answered = answer s (length old); written = output s old }
 
 -- an allocation by the method with T, the further number and the amounts, the last element kept
-abbrev allocated : Method → ℕ → ℕ → List ℕ → Called
-allocated m T f vs = record { answered = value (record { method = m; total = T; further = f }); written = vs ++ (7 ∷ []) }
+abbrev pub allocated : Method → ℕ → ℕ → List ℕ → Called
+allocated m T f vs = record { answered = value (record { method = m; total = T; further = some f }); written = vs ++ (7 ∷ []) }
 
-abbrev M-shorts : List ℕ
+-- an allocation by L with T and the amounts, and no starting place
+abbrev pub undrawnBy : ℕ → List ℕ → Called
+undrawnBy T vs = record { answered = value (record { method = Lottery; total = T; further = none }); written = vs ++ (7 ∷ []) }
+
+-- a refusal with its number, the whole output of a list of n positions kept
+abbrev pub turnedAway : ℕ → ℕ → Called
+turnedAway n r = record { answered = refused r; written = replicate (suc n) 7 }
+
+abbrev pub M-shorts : List ℕ
 M-shorts = 5 ∷ 8 ∷ 2 ∷ 10 ∷ 11 ∷ []
 
 -- A, B, C, D, E, F, G, H, J, K, M, N
@@ -84,7 +93,7 @@ pub starred-known : map calledOn starred ≡ known
 unfolding calledOn starred known
 starred-known = refl
 
--- T = 3 under L with draws 3333 and 3334; T = 36 with S = 36 and 37; under W the draws 36, 0 and 37
+-- T = 3 under L with draws 3333 and 3334; T = 36 with S = 36 and 37; under W the draws 36, 0 and 37, with S = 35 and with S = 36
 pub boundaries : List Series
 boundaries =
     series Lottery (1 ∷ 1 ∷ 1 ∷ []) 1 3333 ∷
@@ -93,44 +102,46 @@ boundaries =
     series Lottery M-shorts 37 1 ∷
     series ProRata M-shorts 36 0 ∷
     series ProRata M-shorts 37 0 ∷
+    series Wheel M-shorts 35 36 ∷
+    series Wheel M-shorts 35 0 ∷
+    series Wheel M-shorts 35 37 ∷
     series Wheel M-shorts 36 36 ∷
     series Wheel M-shorts 36 0 ∷
     series Wheel M-shorts 36 37 ∷
     series Wheel M-shorts 37 36 ∷
     []
 
--- a refusal with its number, the whole output kept
-abbrev turnedAway : ℕ → Called
-turnedAway n = record { answered = refused n; written = replicate 6 7 }
-
--- the starting places 1 and 2; allocated and 9; allocated, and 10 twice
+-- the starting places 1 and 2; allocated, without a starting place under L, and 9; under W allocated, and 10 twice, and with S = 36 allocated whatever the draw
 pub boundaries-known : map calledOn boundaries ≡
     allocated Lottery 3 1 (1 ∷ 0 ∷ 0 ∷ []) ∷
     allocated Lottery 3 2 (0 ∷ 1 ∷ 0 ∷ []) ∷
-    allocated Lottery 36 1 M-shorts ∷
-    turnedAway 9 ∷
+    undrawnBy 36 M-shorts ∷
+    turnedAway 5 9 ∷
     allocated ProRata 36 0 M-shorts ∷
-    turnedAway 9 ∷
+    turnedAway 5 9 ∷
+    allocated Wheel 36 2 (5 ∷ 8 ∷ 2 ∷ 10 ∷ 10 ∷ []) ∷
+    turnedAway 5 10 ∷
+    turnedAway 5 10 ∷
     allocated Wheel 36 0 M-shorts ∷
-    turnedAway 10 ∷
-    turnedAway 10 ∷
-    turnedAway 9 ∷
+    allocated Wheel 36 0 M-shorts ∷
+    allocated Wheel 36 0 M-shorts ∷
+    turnedAway 5 9 ∷
     []
 unfolding calledOn boundaries
 boundaries-known = refl
 
 -- M under each method, with a draw of 0, which W and L refuse
-pub undrawn : List Series
-undrawn = series Wheel M-shorts 13 0 ∷ series ProRata M-shorts 13 0 ∷ series Lottery M-shorts 13 0 ∷ []
+pub drawn-zero : List Series
+drawn-zero = series Wheel M-shorts 13 0 ∷ series ProRata M-shorts 13 0 ∷ series Lottery M-shorts 13 0 ∷ []
 
 -- what the rows that are left come to where the draw is 0 and there is no room: T, for each of them
-pub undrawn-left : map (λ s. first (aside (rows s 0)) (held s)) undrawn ≡ value 36 ∷ value 36 ∷ value 36 ∷ []
-unfolding undrawn series listed total first aside leftAside rows listRows lengthRows roomRows positionRows exercisedRows outside drawRows
+pub undrawn-left : map (λ s. first (aside (rows s 0)) (held s)) drawn-zero ≡ value 36 ∷ value 36 ∷ value 36 ∷ []
+unfolding drawn-zero series listed total unstarted first aside leftAside rows listRows lengthRows roomRows positionRows exercisedRows outside undrawn drawRows thenDrawRows
 undrawn-left = refl
 
 -- so M is accepted with draw 0 and room 0
 pub accepted-undrawn : Accepted (series Lottery M-shorts 13 0) 0
-unfolding Accepted series listed total first aside leftAside rows listRows lengthRows roomRows positionRows exercisedRows outside drawRows
+unfolding Accepted series listed total unstarted first aside leftAside rows listRows lengthRows roomRows positionRows exercisedRows outside undrawn drawRows thenDrawRows
 accepted-undrawn = value-passed (aside (rows (series Lottery M-shorts 13 0) 0)) (held (series Lottery M-shorts 13 0)) 36 refl
 
 -- the places a, a + 1, .., e

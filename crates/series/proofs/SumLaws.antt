@@ -81,6 +81,24 @@ total-sum (h ∷ hs) = ap (h +_) (total-sum hs) ∙ sym (sum-head (λ i. getD (h
 pub total-term : (hs : List ℕ) (i : ℕ) → i < length hs → getD hs i 0 ≤ total hs
 total-term hs i h = omega (arith, sum-term (λ i. getD hs i 0) (length hs) i h, total-sum hs)
 
+total-mono : (vs hs : List ℕ) → length vs ≡ length hs → ((i : ℕ) → i < length hs → getD vs i 0 ≤ getD hs i 0) → total vs ≤ total hs
+total-mono vs hs l most =
+    let n : sumBelow (λ i. getD vs i 0) (length vs) ≡ sumBelow (λ i. getD vs i 0) (length hs) = ap (sumBelow (λ i. getD vs i 0)) l in
+    omega (arith, total-sum vs, n, sum-mono (λ i. getD vs i 0) (λ i. getD hs i 0) (length hs) most, total-sum hs)
+
+-- amounts that add up to T, none above its shorts, are the shorts
+pub all-of : (vs hs : List ℕ) → length vs ≡ length hs → total vs ≡ total hs → ((i : ℕ) → i < length hs → getD vs i 0 ≤ getD hs i 0) → vs ≡ hs
+unfolding total
+all-of [] [] l e most = refl
+all-of [] (h ∷ hs) l e most = absurd (omega arith)
+all-of (v ∷ vs) [] l e most = absurd (omega arith)
+all-of (v ∷ vs) (h ∷ hs) l e most =
+    let first : v ≤ h = most 0 (omega arith) in
+    let others : (i : ℕ) → i < length hs → getD vs i 0 ≤ getD hs i 0 = λ i k. most (suc i) (omega arith) in
+    let rest : total vs ≤ total hs = total-mono vs hs (omega arith) others in
+    let same : v ≡ h = omega arith in
+    ap₂ _∷_ same (all-of vs hs (omega arith) (omega arith) others)
+
 pub getD-listed : (f : ℕ → ℕ) (n i : ℕ) → i < n → getD (listed f n) i 0 ≡ f i
 unfolding listed
 getD-listed f zero i h = absurd (omega arith)

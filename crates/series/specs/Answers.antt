@@ -1,5 +1,6 @@
 -- The document's numbers and values for each case of the enums of src/.
 use Prim.Native.Nat.{ℕ}
+use mathlib.Core.Option.{Option, none, some}
 use Rattle.series.specs.Results.{Result, refused, value}
 use Rattle.series.specs.declared.Refusal.{Refusal}
 use Rattle.series.specs.declared.Refusal.the-variants.{LengthsDiffer, TooManyPositions, NoPositions, OutputTooShort, AccountOrder, NoShorts, TotalTooLarge, NothingExercised, ExercisedAboveTotal, DrawOutOfRange, TextTooLong, NamesLine, Malformed, UnknownMethod, TooManyLines}
@@ -24,15 +25,21 @@ numberOf Malformed = 13
 numberOf UnknownMethod = 14
 numberOf TooManyLines = 15
 
--- what an allocation hands back: T and one further number, which its method gives a meaning
+-- what an allocation hands back: T and one further number, which its method gives a meaning; none for L without a starting place
 pub record Allocation : Type 0 where
   pub method : Method
   pub total : ℕ
-  pub further : ℕ
+  pub further : Option ℕ
 
--- what each answer of the allocating call hands back: T1 for W, the contracts of round two for P, the starting place for L
+-- the number that is handed back: 0 where there is none
+abbrev pub handedBack : Option ℕ → ℕ
+handedBack none = 0
+handedBack (some n) = n
+
+-- what each answer of the allocating call hands back: T1 for W, the contracts of round two for P, the starting place for L, or none
 abbrev pub answerOf : Answer → Result Allocation
-answerOf (Answer.Wheel T T1) = value (record { method = Method.Wheel; total = T .0; further = T1 })
-answerOf (Answer.ProRata T left) = value (record { method = Method.ProRata; total = T .0; further = left .0 })
-answerOf (Answer.Lottery T p) = value (record { method = Method.Lottery; total = T .0; further = p .0 })
+answerOf (Answer.Wheel T T1) = value (record { method = Method.Wheel; total = T .0; further = some T1 })
+answerOf (Answer.ProRata T left) = value (record { method = Method.ProRata; total = T .0; further = some (left .0) })
+answerOf (Answer.Lottery T p) = value (record { method = Method.Lottery; total = T .0; further = some (p .0) })
+answerOf (Answer.LotteryUndrawn T) = value (record { method = Method.Lottery; total = T .0; further = none })
 answerOf (Answer.Refused r) = refused (numberOf r)

@@ -1,5 +1,6 @@
 -- The allocating call: its answer and its output for all inputs. A call is turned away by the first refusal that applies, and keeps its output.
 use Prim.Native.Nat.{ℕ}
+use mathlib.Core.Option.{Option, some}
 use mathlib.Core.List.{List}
 use lib.ListN.{length}
 use Rattle.series.specs.Results.{Result, value, _>>=_, after}
@@ -7,7 +8,7 @@ use Rattle.series.specs.Outputs.{onto}
 use Rattle.series.specs.Series.{Series, method, exercised, draw, held, byMethod}
 use Rattle.series.specs.Wheel.{wheel, blocksUsed}
 use Rattle.series.specs.ProRata.{proRata, remainder}
-use Rattle.series.specs.Lottery.{lottery, startingPlace}
+use Rattle.series.specs.Lottery.{startingPlace, lotteryAmounts, startUsed}
 use Rattle.series.specs.Refusals.{verdict}
 use Rattle.series.specs.Answers.{Allocation}
 
@@ -15,21 +16,21 @@ use Rattle.series.specs.Answers.{Allocation}
 abbrev pub INCREMENT : ℕ
 INCREMENT = 25
 
--- the amounts that the method assigns: by the wheel, pro rata, from the starting place
+-- the amounts that the method assigns: by the wheel, pro rata, by the starting number
 unfoldable pub assigned : Series → List ℕ
 assigned s =
     byMethod (method s)
     (wheel INCREMENT (s .shorts) (exercised s) (draw s))
     (proRata (s .shorts) (exercised s) (draw s))
-    (lottery (s .shorts) (exercised s) (startingPlace (held s) (draw s)))
+    (lotteryAmounts (s .shorts) (exercised s) (startingPlace (held s) (draw s)))
 
--- the one further number: T1 for W (0 if S equals T), the contracts of round two for P, the starting place for L
-unfoldable pub further : Series → ℕ
+-- the one further number: T1 for W (0 if S equals T), the contracts of round two for P, the starting place for L, where one is needed
+unfoldable pub further : Series → Option ℕ
 further s =
     byMethod (method s)
-    (blocksUsed INCREMENT (held s) (exercised s))
-    (remainder (s .shorts) (exercised s))
-    (startingPlace (held s) (draw s))
+    (some (blocksUsed INCREMENT (held s) (exercised s)))
+    (some (remainder (s .shorts) (exercised s)))
+    (startUsed (s .shorts) (exercised s) (startingPlace (held s) (draw s)))
 
 -- the answer of the call; room is the length of the output
 unfoldable pub answer : Series → ℕ → Result Allocation

@@ -8,6 +8,7 @@ use lib.ListN.{length}
 use Rattle.series.specs.Results.{Result, refused, value}
 use Rattle.series.specs.Places.{total}
 use Rattle.series.specs.Series.{Series, MOST_POSITIONS, MOST_CONTRACTS, exercised, held, byMethod}
+use Rattle.series.specs.Lottery.{unstarted}
 use Rattle.series.specs.declared.Terms.{Terms}
 
 -- a row of the table: whether its condition holds, and its number
@@ -60,9 +61,17 @@ exercisedRows T S = eqb S 0 ⟶ 8 ∣ ltb T S ⟶ 9 ∣ []
 unfoldable pub outside : ℕ → ℕ → Bool
 outside n draw = eqb draw 0 || ltb n draw
 
+-- decided before the draw: S equals T, under W and L; then, under L only, one position. n is the number of positions
+unfoldable pub undrawn : Terms → ℕ → ℕ → Bool
+undrawn t T n = byMethod (t .method) (eqb (t .exercised .0) T) false (unstarted T n (t .exercised .0))
+
 -- draw: 1 to T under W, any under P, 1 to 10,000 under L
 unfoldable pub drawRows : Terms → ℕ → List Row
 drawRows t T = byMethod (t .method) (outside T (t .draw) ⟶ 10 ∣ []) [] (outside 10000 (t .draw) ⟶ 10 ∣ [])
+
+-- then the draw, where nothing is decided before it
+unfoldable pub thenDrawRows : Terms → ℕ → ℕ → List Row
+thenDrawRows t T n = cond (undrawn t T n) [] (drawRows t T)
 
 -- the list's rows; room is the length of the output
 unfoldable pub listRows : List ℕ → List ℕ → ℕ → List Row
@@ -70,7 +79,7 @@ listRows accounts shorts room = lengthRows accounts shorts ++ (roomRows shorts r
 
 -- the table, from top to bottom
 unfoldable pub rows : Series → ℕ → List Row
-rows s room = listRows (s .accounts) (s .shorts) room ++ (exercisedRows (held s) (exercised s) ++ drawRows (s .terms) (held s))
+rows s room = listRows (s .accounts) (s .shorts) room ++ (exercisedRows (held s) (exercised s) ++ thenDrawRows (s .terms) (held s) (length (s .shorts)))
 
 -- judging a call: T, or the first refusal that it meets
 unfoldable pub verdict : Series → ℕ → Result ℕ

@@ -58,6 +58,10 @@ pub enum Answer {
         total: Contracts,
         start: Place,
     },
+    // Without a starting place: S equals T, or the list has one position.
+    LotteryUndrawn {
+        total: Contracts,
+    },
     Refused(Refusal),
 }
 

@@ -193,11 +193,33 @@ pub struct Count {
     what: &'static str,
     accepted: u64,
     refused: u64,
+    undrawn: [u64; 2],
 }
 
 impl Count {
     pub fn new(what: &'static str) -> Count {
-        Count { what, accepted: 0, refused: 0 }
+        Count { what, accepted: 0, refused: 0, undrawn: [0; 2] }
+    }
+
+    /// One allocating call as a case.
+    #[track_caller]
+    pub fn allocate(&mut self, method: u8, accounts: &[u32], shorts: &[u32], exercised: u32, draw: u32, room: usize) {
+        if self.case(allocate(method, accounts, shorts, exercised, draw, room)) {
+            self.allocated(method, shorts, exercised, draw);
+        }
+    }
+
+    /// Counts an allocation where its draw is out of range.
+    pub fn allocated(&mut self, method: u8, shorts: &[u32], exercised: u32, draw: u32) {
+        let total = shorts.iter().sum();
+        if reference::judge_draw(method, total, draw).is_err() {
+            self.undrawn[usize::from(exercised < total)] += 1;
+        }
+    }
+
+    /// Whole series, and others of one position, that were allocated with a draw out of range.
+    pub fn undrawn(&self) -> [u64; 2] {
+        self.undrawn
     }
 
     #[track_caller]
@@ -216,5 +238,9 @@ impl Count {
 
     pub fn print(&self) {
         println!("{}: {} cases, {} accepted, {} refused", self.what, self.cases(), self.accepted, self.refused);
+        let [whole, one] = self.undrawn;
+        if whole + one > 0 {
+            println!("{}: {whole} whole series and {one} of one position with a draw out of range", self.what);
+        }
     }
 }

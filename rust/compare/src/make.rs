@@ -63,8 +63,30 @@ pub fn series(random: &mut Random, count: usize, most: u64, exact: bool) -> Seri
     Series { accounts: accounts(random, count), shorts }
 }
 
+/// The lists whose shorts add up to `total`, each cut or not after each contract.
+pub fn lists(total: u32) -> Vec<Series> {
+    (0..1u32 << (total - 1))
+        .map(|cuts| {
+            let mut shorts = vec![1];
+            for i in 0..total - 1 {
+                if cuts >> i & 1 == 1 {
+                    shorts.push(1);
+                } else {
+                    *shorts.last_mut().unwrap() += 1;
+                }
+            }
+            Series { accounts: upward(shorts.len()), shorts }
+        })
+        .collect()
+}
+
+/// Draws at, inside and past the ends of the ranges of W and L.
+pub fn draws(total: u32) -> [u32; 9] {
+    [0, 1, 2, total / 2, total, total + 1, 10_000, 10_001, u32::MAX]
+}
+
 /// S for a list with T contracts.
-pub fn exercised(random: &mut Random, total: u64) -> u32 {
+fn exercised(random: &mut Random, total: u64) -> u32 {
     let s = match random.below(24) {
         0 => 0,
         1 => total + 1,
@@ -81,7 +103,7 @@ pub fn exercised(random: &mut Random, total: u64) -> u32 {
 }
 
 /// A draw for a method; mostly one in range.
-pub fn draw(random: &mut Random, method: u8, total: u64) -> u32 {
+fn draw(random: &mut Random, method: u8, total: u64) -> u32 {
     let highest = match method {
         b'W' => total,
         b'L' => 10_000,
@@ -98,6 +120,16 @@ pub fn draw(random: &mut Random, method: u8, total: u64) -> u32 {
         _ => random.between(1, highest),
     };
     d.min(u64::from(u32::MAX)) as u32
+}
+
+/// S and a draw for a method and a list; of the whole series and of one position every other draw is out of range.
+pub fn terms(random: &mut Random, method: u8, positions: usize, total: u64) -> (u32, u32) {
+    let exercised = exercised(random, total);
+    if (u64::from(exercised) == total || positions == 1) && random.one_in(2) {
+        let highest = if method == b'W' { total as u32 } else { 10_000 };
+        return (exercised, random.pick(&[0, highest + 1, u32::MAX]));
+    }
+    (exercised, draw(random, method, total))
 }
 
 /// Breaks a list in one way.
@@ -125,6 +157,39 @@ pub fn spoil(random: &mut Random, list: &mut Series) {
     }
 }
 
+/// The values of an allocating call; `room` is the length of its output.
+pub struct Call {
+    pub method: u8,
+    pub list: Series,
+    pub exercised: u32,
+    pub draw: u32,
+    pub room: usize,
+}
+
+/// A series under the three methods; at times its list is spoiled or the output is too short.
+pub fn calls(random: &mut Random, positions: u64, total: u64) -> [Call; 3] {
+    let positions = random.spread(positions);
+    let most = positions.max(random.spread(total));
+    let exact = random.one_in(3);
+    let list = series(random, positions as usize, most, exact);
+    METHODS.map(|method| {
+        let mut list = list.clone();
+        let (exercised, draw) = terms(random, method, list.shorts.len(), list.total());
+        if random.one_in(12) {
+            for _ in 0..random.between(1, 3) {
+                spoil(random, &mut list);
+            }
+        }
+        let room = match random.below(16) {
+            0 => list.shorts.len().saturating_sub(1),
+            1 => random.index(list.shorts.len() + 1),
+            2..=8 => list.shorts.len(),
+            _ => list.shorts.len() + random.index(9),
+        };
+        Call { method, list, exercised, draw, room }
+    })
+}
+
 /// A text that reads, with `lines` positions, mostly one that is allocated.
 pub fn text(random: &mut Random, lines: usize) -> Vec<u8> {
     let method = random.pick(&METHODS);
@@ -145,7 +210,7 @@ pub fn text(random: &mut Random, lines: usize) -> Vec<u8> {
     let (s, d) = if random.one_in(16) {
         (random.bits() as u32, random.pick(&[0, u32::MAX, 4_294_967, 10]))
     } else {
-        (exercised(random, total), draw(random, method, total))
+        terms(random, method, lines, total)
     };
     reference::write(method, s, d, &list.accounts, &list.shorts, usize::MAX).expect("at most 1,024 lines")
 }

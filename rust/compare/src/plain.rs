@@ -6,10 +6,7 @@ fn known(method: u8) -> bool {
     matches!(method, b'W' | b'P' | b'L')
 }
 
-fn judge(method: u8, accounts: &[u32], shorts: &[u32], exercised: u32, draw: u32, room: usize) -> Result<u32, u32> {
-    if !known(method) {
-        return Err(14);
-    }
+fn judge(accounts: &[u32], shorts: &[u32], exercised: u32, room: usize) -> Result<u32, u32> {
     let count = accounts.len();
     if count != shorts.len() {
         return Err(1);
@@ -44,18 +41,10 @@ fn judge(method: u8, accounts: &[u32], shorts: &[u32], exercised: u32, draw: u32
     if exercised > sum {
         return Err(9);
     }
-    let highest = match method {
-        b'W' => sum,
-        b'L' => 10_000,
-        _ => return Ok(sum),
-    };
-    if draw == 0 || draw > highest {
-        return Err(10);
-    }
     Ok(sum)
 }
 
-/// The amounts by `assign` of a call that is not turned away: T and the further number, or a refusal.
+/// Judges a call; `assign` has the amounts that need its draw. T and the further number, or a refusal.
 fn judged(
     method: u8,
     (accounts, shorts): (&[u32], &[u32]),
@@ -64,8 +53,23 @@ fn judged(
     amounts: &mut [u32],
     assign: impl FnOnce(&[u32], u32, u32, u32, &mut [u32]) -> u32,
 ) -> Result<(u32, u32), u32> {
-    let total = judge(method, accounts, shorts, exercised, draw, amounts.len())?;
-    Ok((total, assign(shorts, total, exercised, draw, &mut amounts[..shorts.len()])))
+    let total = judge(accounts, shorts, exercised, amounts.len())?;
+    let amounts = &mut amounts[..shorts.len()];
+    if method != b'P' {
+        if exercised == total {
+            amounts.copy_from_slice(shorts);
+            return Ok((total, 0));
+        }
+        if method == b'L' && amounts.len() == 1 {
+            amounts[0] = exercised;
+            return Ok((total, 0));
+        }
+        let highest = if method == b'W' { total } else { 10_000 };
+        if draw == 0 || draw > highest {
+            return Err(10);
+        }
+    }
+    Ok((total, assign(shorts, total, exercised, draw, amounts)))
 }
 
 /// T and the further number, or a refusal.
@@ -81,7 +85,8 @@ pub fn allocate(
     match method {
         b'W' => judged(method, list, exercised, draw, amounts, wheel),
         b'P' => judged(method, list, exercised, draw, amounts, pro_rata),
-        _ => judged(method, list, exercised, draw, amounts, lottery),
+        b'L' => judged(method, list, exercised, draw, amounts, lottery),
+        _ => Err(14),
     }
 }
 
@@ -127,10 +132,6 @@ fn find(shorts: &[u32], place: u32) -> (usize, u32) {
 
 /// One walk over blocks and positions.
 fn wheel(shorts: &[u32], total: u32, exercised: u32, draw: u32, amounts: &mut [u32]) -> u32 {
-    if exercised == total {
-        amounts.copy_from_slice(shorts);
-        return 0;
-    }
     let blocks = exercised.div_ceil(25);
     let interval = interval(total, blocks);
     let (whole, part) = ((interval / ONE) as u32, (interval % ONE) as u32);
@@ -174,10 +175,6 @@ fn wheel(shorts: &[u32], total: u32, exercised: u32, draw: u32, amounts: &mut [u
 }
 
 fn wheel_by_division(shorts: &[u32], total: u32, exercised: u32, draw: u32, amounts: &mut [u32]) -> u32 {
-    if exercised == total {
-        amounts.copy_from_slice(shorts);
-        return 0;
-    }
     let blocks = exercised.div_ceil(25);
     let pace = 25 * ONE + interval(total, blocks);
     // How many of the first x contracts from the starting place are in blocks. Block j (from 0)

@@ -1,6 +1,6 @@
 // The limits of the document, and lists to which several refusals apply.
 
-use compare::make::{upward, METHODS};
+use compare::make::{draws, upward, METHODS};
 use compare::Count;
 
 const MOST: u32 = 10_000_000;
@@ -9,7 +9,7 @@ fn each_method(count: &mut Count, accounts: &[u32], shorts: &[u32], exercised: &
     for method in METHODS {
         for &s in exercised {
             for &draw in draws {
-                count.case(compare::allocate(method, accounts, shorts, s, draw, accounts.len()));
+                count.allocate(method, accounts, shorts, s, draw, accounts.len());
             }
         }
     }
@@ -23,11 +23,12 @@ fn number_of_positions() {
         for short in [1, 3, 60] {
             let shorts = vec![short; positions];
             let total = short * positions as u32;
-            let draws = [0, 1, total / 2, total, total + 1, 10_000, 10_001, u32::MAX];
-            each_method(&mut count, &accounts, &shorts, &[0, 1, total / 3, total - 1, total, total + 1], &draws);
+            let exercised = [0, 1, total / 3, total - 1, total, total + 1];
+            each_method(&mut count, &accounts, &shorts, &exercised, &draws(total));
         }
     }
     count.print();
+    assert!(!count.undrawn().contains(&0));
 }
 
 #[test]
@@ -42,9 +43,11 @@ fn number_of_contracts() {
         let accounts = upward(base.len());
         each_method(&mut count, &accounts, &base, &[MOST - 1], &[1, 4_855, 10_000]);
         each_method(&mut count, &accounts, &base, &[1, 24, 26, MOST / 2 + 1], &[9_999]);
-        each_method(&mut count, &accounts, &base, &[0, MOST, MOST + 1, u32::MAX], &[0, 1, 10_000, 10_001, u32::MAX]);
+        each_method(&mut count, &accounts, &base, &[0, MOST, MOST + 1, u32::MAX], &draws(MOST));
         for draw in [0, 1, MOST - 1, MOST, MOST + 1, u32::MAX] {
-            count.case(compare::allocate(b'W', &accounts, &base, MOST - 1, draw, base.len()));
+            for method in *b"WL" {
+                count.allocate(method, &accounts, &base, MOST - 1, draw, base.len());
+            }
         }
         for at in [0, base.len() / 2, base.len() - 1] {
             for extra in [1, 2, u32::MAX - MOST] {
@@ -55,6 +58,7 @@ fn number_of_contracts() {
         }
     }
     count.print();
+    assert!(!count.undrawn().contains(&0));
 }
 
 #[test]
@@ -63,17 +67,12 @@ fn one_position() {
     for account in [0, 1, u32::MAX] {
         for short in [0u32, 1, 2, 24, 25, 26, 49, 50, 51, 75, 1_000] {
             for s in (0..=short.min(80) + 1).chain([short.saturating_sub(1), short, short + 1]) {
-                each_method(
-                    &mut count,
-                    &[account],
-                    &[short],
-                    &[s],
-                    &[0, 1, 2, short, short + 1, 10_000, 10_001, u32::MAX],
-                );
+                each_method(&mut count, &[account], &[short], &[s], &draws(short));
             }
         }
     }
     count.print();
+    assert!(!count.undrawn().contains(&0));
 }
 
 #[test]
@@ -87,7 +86,7 @@ fn lengths_of_the_lists() {
             for room in [0, 1, 2, 3, 4, 4_095, 4_096, 4_097, 5_000] {
                 for method in [b'W', b'P', b'L', b'X'] {
                     for exercised in [0, 1] {
-                        count.case(compare::allocate(method, &accounts[..a], &shorts[..s], exercised, 1, room));
+                        count.allocate(method, &accounts[..a], &shorts[..s], exercised, 1, room);
                     }
                 }
             }
@@ -100,9 +99,9 @@ fn lengths_of_the_lists() {
 fn every_method_byte() {
     let mut count = Count::new("limits, methods");
     for method in 0..=255 {
-        count.case(compare::allocate(method, &[1, 2], &[30, 40], 26, 7, 2));
-        count.case(compare::allocate(method, &[], &[1], 0, 0, 0));
-        count.case(compare::allocate(method, &[0], &[0], 0, 0, 0));
+        count.allocate(method, &[1, 2], &[30, 40], 26, 7, 2);
+        count.allocate(method, &[], &[1], 0, 0, 0);
+        count.allocate(method, &[0], &[0], 0, 0, 0);
         count.case(compare::write(method, 26, 7, &[1, 2], &[30, 40], 100));
         count.case(compare::write(method, 26, 7, &[1, 2], &[30], 100));
         count.case(compare::write(method, 26, 7, &[1, 2], &[30, 40], 0));
@@ -134,7 +133,7 @@ fn several_refusals_at_once() {
                     for (n, m, room) in [(3, 3, 3), (3, 3, 2), (2, 2, 3), (3, 2, 0)] {
                         // Large T belongs to the other tests.
                         if s[..m].iter().all(|&x| x != MOST) || exercised != 3 || method == b'P' {
-                            count.case(compare::allocate(method, &a[..n], &s[..m], exercised, draw, room));
+                            count.allocate(method, &a[..n], &s[..m], exercised, draw, room);
                         }
                     }
                 }

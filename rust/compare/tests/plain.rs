@@ -1,23 +1,23 @@
 // What the benchmarks measure against gives the same answers.
 
 use compare::random::Random;
-use compare::{cases, make, plain};
+use compare::{cases, make, plain, Count};
 
 #[test]
 fn plain_allocation() {
     let mut random = Random::new(0xBE7C_0001);
+    let mut count = Count::new("plain");
     for case in 0..20_000 {
         let (positions, most) = if case % 100 == 0 { (4_096, 300_000) } else { (40, 2_000) };
         let positions = random.between(1, positions);
         let most = random.between(positions, most);
         let mut list = make::series(&mut random, positions as usize, most, false);
         let method = random.pick(&make::METHODS);
-        let exercised = make::exercised(&mut random, list.total());
-        let draw = make::draw(&mut random, method, list.total());
+        let (exercised, draw) = make::terms(&mut random, method, positions as usize, list.total());
         if random.one_in(10) {
             make::spoil(&mut random, &mut list);
         }
-        let room = list.accounts.len() - usize::from(random.one_in(20));
+        let room = list.accounts.len().saturating_sub(usize::from(random.one_in(20)));
         let expected = reference::allocate(method, &list.accounts, &list.shorts, exercised, draw, room);
         let shown = cases::allocate(method, &list.accounts, &list.shorts, exercised, draw, room);
         let mut amounts = vec![77; room];
@@ -37,7 +37,12 @@ fn plain_allocation() {
             let found = found.map(|(total, further)| reference::Allocation { amounts, total, further });
             assert_eq!(found, expected, "by bisection: {shown}");
         }
+        if count.case(Ok(expected.is_ok())) {
+            count.allocated(method, &list.shorts, exercised, draw);
+        }
     }
+    count.print();
+    assert!(!count.undrawn().contains(&0));
 }
 
 #[test]

@@ -42,9 +42,13 @@ fn random_texts() {
             }
         }
         let feed = if case % 4 == 0 { Feed::File } else { Feed::Pipe };
-        count.case(program::compare(&text, feed));
+        if count.case(program::compare(&text, feed)) {
+            let series = reference::read_text(&text).expect("a series");
+            count.allocated(series.method, &series.shorts, series.exercised, series.draw);
+        }
     }
     count.print();
+    assert!(!count.undrawn().contains(&0));
 }
 
 #[test]

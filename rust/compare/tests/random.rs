@@ -15,30 +15,12 @@ fn run(size: Size) {
     let mut random = Random::new(size.seed);
     let mut count = Count::new(size.what);
     for _ in 0..size.series {
-        let positions = random.spread(size.positions);
-        let most = positions.max(random.spread(size.total));
-        let exact = random.one_in(3);
-        let list = make::series(&mut random, positions as usize, most, exact);
-        for method in make::METHODS {
-            let mut list = list.clone();
-            let total = list.total();
-            let exercised = make::exercised(&mut random, total);
-            let draw = make::draw(&mut random, method, total);
-            if random.one_in(12) {
-                for _ in 0..random.between(1, 3) {
-                    make::spoil(&mut random, &mut list);
-                }
-            }
-            let room = match random.below(16) {
-                0 => list.shorts.len().saturating_sub(1),
-                1 => random.index(list.shorts.len() + 1),
-                2..=8 => list.shorts.len(),
-                _ => list.shorts.len() + random.index(9),
-            };
-            count.case(compare::allocate(method, &list.accounts, &list.shorts, exercised, draw, room));
+        for make::Call { method, list, exercised, draw, room } in make::calls(&mut random, size.positions, size.total) {
+            count.allocate(method, &list.accounts, &list.shorts, exercised, draw, room);
         }
     }
     count.print();
+    assert!(!count.undrawn().contains(&0));
 }
 
 #[test]
@@ -60,16 +42,16 @@ fn largest(what: &'static str, seed: u64) {
     let mut random = Random::new(seed);
     let mut count = Count::new(what);
     for _ in 0..150 {
-        let positions = random.between(1, 4_096) as usize;
+        let positions = if random.one_in(6) { 1 } else { random.between(1, 4_096) as usize };
         let exact = random.one_in(2);
         let list = make::series(&mut random, positions, 10_000_000, exact);
         for method in make::METHODS {
-            let exercised = make::exercised(&mut random, list.total());
-            let draw = make::draw(&mut random, method, list.total());
-            count.case(compare::allocate(method, &list.accounts, &list.shorts, exercised, draw, positions + 1));
+            let (exercised, draw) = make::terms(&mut random, method, positions, list.total());
+            count.allocate(method, &list.accounts, &list.shorts, exercised, draw, positions + 1);
         }
     }
     count.print();
+    assert!(!count.undrawn().contains(&0));
 }
 
 #[test]
@@ -95,7 +77,7 @@ fn halves_of_the_skip_interval() {
         let exercised = (25 * blocks - random.below(25)).min(total - 1);
         let list = make::series(&mut random, 60, total, true);
         let draw = random.between(1, total) as u32;
-        count.case(compare::allocate(b'W', &list.accounts, &list.shorts, exercised as u32, draw, 60));
+        count.allocate(b'W', &list.accounts, &list.shorts, exercised as u32, draw, 60);
     }
     count.print();
 }
@@ -116,7 +98,7 @@ fn ties_in_round_two() {
             1 => random.below(100) as u32,
             _ => u32::MAX - random.below(100) as u32,
         };
-        count.case(compare::allocate(b'P', &make::upward(positions), &shorts, exercised, draw, positions));
+        count.allocate(b'P', &make::upward(positions), &shorts, exercised, draw, positions);
     }
     count.print();
 }
@@ -132,7 +114,7 @@ fn nearly_the_whole_wheel() {
         let list = make::series(&mut random, positions, total, true);
         let exercised = (total - random.between(1, total.min(80) - 1)) as u32;
         let draw = random.between(1, total) as u32;
-        count.case(compare::allocate(b'W', &list.accounts, &list.shorts, exercised, draw, positions));
+        count.allocate(b'W', &list.accounts, &list.shorts, exercised, draw, positions);
     }
     count.print();
 }

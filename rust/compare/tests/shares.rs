@@ -4,17 +4,20 @@ use compare::make;
 use compare::random::Random;
 use dilbreth::Method;
 
-fn shares(method: Method, shorts: &[u32], exercised: u32, total: u32) {
+// Answers whether each starting place was handed back.
+fn shares(method: Method, shorts: &[u32], exercised: u32, total: u32) -> bool {
     let accounts = make::upward(shorts.len());
     let mut amounts = vec![0; shorts.len()];
     let mut sums = vec![0u64; shorts.len()];
+    // A whole series and one position have no starting place.
+    let started = method == Method::Lottery && exercised < total && shorts.len() > 1;
     for place in 1..=total {
         // Under L a draw that leads to the place; there is one where T is at most 10,000.
         let draw = if method == Method::Wheel { place } else { place * 10_000 / total };
         let answer =
             dilbreth::allocate(method, &accounts, shorts, exercised, draw, &mut amounts).expect("an allocation");
         if method == Method::Lottery {
-            assert_eq!(answer.further, place);
+            assert_eq!(answer.further, if started { place } else { 0 });
         }
         for (sum, &amount) in sums.iter_mut().zip(&amounts) {
             *sum += u64::from(amount);
@@ -23,23 +26,26 @@ fn shares(method: Method, shorts: &[u32], exercised: u32, total: u32) {
     for (sum, &short) in sums.iter().zip(shorts) {
         assert_eq!(*sum, u64::from(short) * u64::from(exercised), "{method:?} {shorts:?} S {exercised}");
     }
+    started
 }
 
 #[test]
 fn every_starting_place() {
     let mut random = Random::new(0x5A4E_0001);
-    let mut series = 0;
+    let (mut series, mut started) = (0, 0);
     for most in [5, 30, 60, 300, 3_000] {
         for _ in 0..30 {
             let positions = random.between(1, 12.min(most)) as usize;
             let list = make::series(&mut random, positions, most, true);
             let exercised = random.between(1, most) as u32;
             for method in [Method::Wheel, Method::Lottery] {
-                shares(method, &list.shorts, exercised, most as u32);
-                shares(method, &list.shorts, (most - 1).max(1) as u32, most as u32);
-                series += 2;
+                for exercised in [exercised, most as u32 - 1, most as u32] {
+                    started += u32::from(shares(method, &list.shorts, exercised, most as u32));
+                    series += 1;
+                }
             }
         }
     }
-    println!("shares: {series} series, each from every starting place");
+    println!("shares: {series} series, each from every starting place; {started} under L hand it back");
+    assert!(started > 0);
 }

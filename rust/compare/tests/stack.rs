@@ -10,15 +10,17 @@ fn on_a_small_stack(call: impl FnOnce() + Send + 'static) {
 #[test]
 fn allocating() {
     for method in make::METHODS {
-        let (accounts, shorts) = (make::upward(4_096), vec![2_441; 4_096]);
-        let mut amounts = vec![0; 4_096];
-        on_a_small_stack(move || {
-            let (mut total, mut further) = (0, 0);
-            let number =
-                calls::allocate(method, &accounts, &shorts, 4_999_999, 10_000, &mut amounts, &mut total, &mut further);
-            assert_eq!((number, total), (0, 9_998_336));
-            assert_eq!(amounts.iter().sum::<u32>(), 4_999_999);
-        });
+        for (s, draw) in [(4_999_999, 10_000), (9_998_336, 0)] {
+            let (accounts, shorts) = (make::upward(4_096), vec![2_441; 4_096]);
+            let mut amounts = vec![0; 4_096];
+            on_a_small_stack(move || {
+                let (mut total, mut further) = (0, 0);
+                let number =
+                    calls::allocate(method, &accounts, &shorts, s, draw, &mut amounts, &mut total, &mut further);
+                assert_eq!((number, total), (0, 9_998_336));
+                assert_eq!(amounts.iter().sum::<u32>(), s);
+            });
+        }
     }
 }
 

@@ -17,10 +17,14 @@ fn through(random: &mut Random, text: &[u8], reading: &mut Count, writing: &mut 
     reading.case(compare::read(text, rooms_a[1], rooms_s[1]));
     reading.case(compare::read(text, rooms_a[2], rooms_s[1]));
     reading.case(compare::read(text, rooms_a[1], rooms_s[2]));
-    for room in rooms(random, reference::printed(text).len()) {
+    let printed = reference::printed(text);
+    for room in rooms(random, printed.len()) {
         responding.case(compare::respond(text, room));
     }
     if let Ok(s) = series {
+        if !printed.starts_with(b"refused") {
+            responding.allocated(s.method, &s.shorts, s.exercised, s.draw);
+        }
         let written = reference::write(s.method, s.exercised, s.draw, &s.accounts, &s.shorts, usize::MAX).unwrap();
         assert_eq!(written, text, "a series has one text only");
         for room in rooms(random, text.len()) {
@@ -65,6 +69,7 @@ fn random_texts() {
     reading.print();
     writing.print();
     responding.print();
+    assert!(!responding.undrawn().contains(&0));
 }
 
 const M: &[u8] = b"method,exercised,draw\nL,13,4855\naccount,short\n1,5\n2,8\n3,2\n4,10\n5,11\n";
@@ -148,13 +153,17 @@ fn numbers_in_every_field() {
     ];
     let long = "9".repeat(30_000);
     for number in numbers.into_iter().chain([&long[..]]) {
-        for (a, b, c) in [
-            ("W,", ",5\naccount,short\n1,7\n", ""),
-            ("P,1,", "\naccount,short\n1,7\n", ""),
-            ("L,1,5\naccount,short\n", ",7\n", ""),
-            ("L,1,5\naccount,short\n1,7\n2,", "\n3,3\n", ""),
+        for (before, after) in [
+            ("W,", ",5\naccount,short\n1,7\n"),
+            ("P,1,", "\naccount,short\n1,7\n"),
+            ("W,1,", "\naccount,short\n1,7\n"),
+            ("W,7,", "\naccount,short\n1,7\n"),
+            ("L,1,", "\naccount,short\n1,7\n"),
+            ("L,1,", "\naccount,short\n1,7\n2,1\n"),
+            ("W,1,5\naccount,short\n", ",7\n"),
+            ("L,1,5\naccount,short\n1,7\n2,", "\n3,3\n"),
         ] {
-            let text = ["method,exercised,draw\n", a, number, b, c].concat();
+            let text = ["method,exercised,draw\n", before, number, after].concat();
             count.case(compare::read(text.as_bytes(), 4, 4));
             count.case(compare::read(text.as_bytes(), 0, 4));
             count.case(compare::respond(text.as_bytes(), 200));

@@ -4,7 +4,7 @@ use dilbreth::{Allocated, Method, Refused, Terms};
 
 type Known = (Method, &'static [u32], u32, u32, &'static [u32], u32);
 
-const KNOWN: [Known; 12] = [
+const KNOWN: [Known; 16] = [
     (Method::Wheel, &[60, 200, 95], 175, 1, &[35, 97, 43], 7),
     (Method::Wheel, &[60, 200, 95], 175, 340, &[34, 98, 43], 7),
     (Method::Wheel, &[10, 20], 26, 29, &[10, 16], 2),
@@ -17,6 +17,11 @@ const KNOWN: [Known; 12] = [
     (Method::ProRata, &[3, 1, 2], 2, 0, &[1, 0, 1], 2),
     (Method::Lottery, &[5, 8, 2, 10, 11], 13, 4855, &[0, 0, 0, 8, 5], 18),
     (Method::Lottery, &[5, 8, 2, 10, 11], 2, 10000, &[1, 0, 0, 0, 1], 36),
+    // The draw is not judged.
+    (Method::Wheel, &[5, 8, 2, 10, 11], 36, 0, &[5, 8, 2, 10, 11], 0),
+    (Method::Lottery, &[5, 8, 2, 10, 11], 36, 0, &[5, 8, 2, 10, 11], 0),
+    (Method::Lottery, &[5, 8, 2, 10, 11], 36, 4855, &[5, 8, 2, 10, 11], 0),
+    (Method::Lottery, &[36], 13, 0, &[13], 0),
 ];
 
 #[test]
@@ -48,6 +53,7 @@ fn case_m_in_full() {
 #[test]
 fn refusals_are_errors() {
     assert_eq!(dilbreth::allocate(Method::Wheel, &[1], &[36], 37, 1, &mut [0]), Err(Refused(9)));
+    assert_eq!(dilbreth::allocate(Method::Wheel, &[1], &[36], 13, 0, &mut [0]), Err(Refused(10)));
     assert_eq!(dilbreth::read(b"", &mut [], &mut []), Err(Refused(12)));
     assert_eq!(dilbreth::write(Method::Wheel, 1, 1, &[1], &[], &mut []), Err(Refused(1)));
     assert_eq!(dilbreth::respond(b"", &mut []), Err(Refused(4)));

@@ -59,7 +59,8 @@ fn accepted(number: u32) -> Result<(), Refused> {
 pub struct Allocated {
     /// T, the sum of all shorts.
     pub total: u32,
-    /// The blocks of the wheel (0 where S equals T), the contracts of round two, or the starting place.
+    /// The blocks of the wheel (0 where S equals T), the contracts of round two, or the starting place (0 where S
+    /// equals T or the list has one position).
     pub further: u32,
 }
 
@@ -72,7 +73,8 @@ pub struct Terms {
     pub positions: usize,
 }
 
-/// Assigns the exercised contracts; `amounts` receives those of each position in list order.
+/// Assigns the exercised contracts; `amounts` receives those of each position in list order. The draw is not judged
+/// where S equals T, nor for one position of the lottery.
 pub fn allocate(
     method: Method,
     accounts: &[u32],

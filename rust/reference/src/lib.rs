@@ -32,8 +32,8 @@ fn known(method: u8) -> bool {
     [b'W', b'P', b'L'].contains(&method)
 }
 
-/// The first refusal of the allocating call that applies, or T.
-pub fn judge(method: u8, accounts: &[u32], shorts: &[u32], exercised: u32, draw: u32, room: usize) -> Result<u32, u32> {
+/// The first refusal of the allocating call that applies, the draw left aside, or T.
+pub fn judge(method: u8, accounts: &[u32], shorts: &[u32], exercised: u32, room: usize) -> Result<u32, u32> {
     if !known(method) {
         return Err(14);
     }
@@ -59,20 +59,43 @@ pub fn judge(method: u8, accounts: &[u32], shorts: &[u32], exercised: u32, draw:
         }
         before = account;
     }
-    let highest = match method {
-        b'W' => sum,
-        b'L' => 10_000,
-        _ => u64::from(u32::MAX),
-    };
-    let lowest = if method == b'P' { 0 } else { 1 };
-    let rest =
-        [(8, exercised == 0), (9, u64::from(exercised) > sum), (10, !(lowest..=highest).contains(&u64::from(draw)))];
-    for (number, applies) in rest {
+    for (number, applies) in [(8, exercised == 0), (9, u64::from(exercised) > sum)] {
         if applies {
             return Err(number);
         }
     }
     Ok(sum as u32)
+}
+
+pub fn judge_draw(method: u8, total: u32, draw: u32) -> Result<(), u32> {
+    let range = match method {
+        b'W' => 1..=total,
+        b'L' => 1..=10_000,
+        _ => 0..=u32::MAX,
+    };
+    if range.contains(&draw) {
+        Ok(())
+    } else {
+        Err(10)
+    }
+}
+
+/// The amounts where no draw is asked for: S equal to T under W and L, then one position under L.
+fn without_draw(method: u8, shorts: &[u32], total: u32, exercised: u32) -> Option<Vec<u32>> {
+    match method {
+        b'W' | b'L' if exercised == total => Some(shorts.to_vec()),
+        b'L' if shorts.len() == 1 => Some(vec![exercised]),
+        _ => None,
+    }
+}
+
+/// The amounts and the further number that a draw in range leads to.
+pub fn by_draw(method: u8, shorts: &[u32], total: u32, exercised: u32, draw: u32) -> (Vec<u32>, u32) {
+    match method {
+        b'W' => wheel(shorts, total, exercised, draw),
+        b'P' => pro_rata(shorts, total, exercised, draw),
+        _ => lottery(shorts, total, exercised, draw),
+    }
 }
 
 /// The allocating call; `room` is the length of its output.
@@ -84,11 +107,13 @@ pub fn allocate(
     draw: u32,
     room: usize,
 ) -> Result<Allocation, u32> {
-    let total = judge(method, accounts, shorts, exercised, draw, room)?;
-    let (amounts, further) = match method {
-        b'W' => wheel(shorts, total, exercised, draw),
-        b'P' => pro_rata(shorts, total, exercised, draw),
-        _ => lottery(shorts, total, exercised, draw),
+    let total = judge(method, accounts, shorts, exercised, room)?;
+    let (amounts, further) = match without_draw(method, shorts, total, exercised) {
+        Some(amounts) => (amounts, 0),
+        None => {
+            judge_draw(method, total, draw)?;
+            by_draw(method, shorts, total, exercised, draw)
+        }
     };
     Ok(Allocation { amounts, total, further })
 }
@@ -142,9 +167,6 @@ pub fn turn(total: u32, exercised: u32, draw: u32, mut mark: impl FnMut(u32, u32
 }
 
 fn wheel(shorts: &[u32], total: u32, exercised: u32, draw: u32) -> (Vec<u32>, u32) {
-    if exercised == total {
-        return (shorts.to_vec(), 0);
-    }
     let owners = owners(shorts);
     let mut marked = vec![false; owners.len()];
     let mut amounts = vec![0; shorts.len()];

@@ -17,6 +17,10 @@ const KNOWN: [Known; 12] = [
     (b'L', &[5, 8, 2, 10, 11], 2, 10000, &[1, 0, 0, 0, 1], 36, 36),
 ];
 
+// The shorts of M and N, T = 36, and draws in and out of the ranges of W and L.
+const SHORTS: [u32; 5] = [5, 8, 2, 10, 11];
+const DRAWS: [u32; 8] = [0, 1, 18, 36, 37, 10_000, 10_001, u32::MAX];
+
 fn upward(count: usize) -> Vec<u32> {
     (1..=count as u32).collect()
 }
@@ -82,21 +86,62 @@ fn case_m_in_full() {
 fn facts_at_the_edges() {
     assert_eq!(starting_place(3, 3333), 1);
     assert_eq!(starting_place(3, 3334), 2);
-    let m = [5, 8, 2, 10, 11];
     for method in [b'W', b'P', b'L'] {
-        assert_eq!(answer(method, &m, 36, 1).unwrap().amounts, m);
-        assert_eq!(answer(method, &m, 37, 1), Err(9));
+        assert_eq!(answer(method, &SHORTS, 36, 1).unwrap().amounts, SHORTS);
+        assert_eq!(answer(method, &SHORTS, 37, 1), Err(9));
     }
-    assert!(answer(b'W', &m, 13, 36).is_ok());
-    assert_eq!(answer(b'W', &m, 13, 0), Err(10));
-    assert_eq!(answer(b'W', &m, 13, 37), Err(10));
-    assert_eq!(answer(b'W', &m, 36, 36).unwrap().further, 0);
-    assert_eq!(answer(b'W', &m, 36, 37), Err(10));
-    assert_eq!(answer(b'L', &m, 36, 0), Err(10));
-    assert_eq!(answer(b'L', &m, 36, 10_001), Err(10));
-    assert!(answer(b'L', &m, 36, 10_000).is_ok());
-    assert!(answer(b'P', &m, 13, u32::MAX).is_ok());
-    assert_eq!(answer(b'P', &m, 36, 0).unwrap().further, 0);
+    for exercised in [13, 35] {
+        assert!(answer(b'W', &SHORTS, exercised, 36).is_ok());
+        assert_eq!(answer(b'W', &SHORTS, exercised, 0), Err(10));
+        assert_eq!(answer(b'W', &SHORTS, exercised, 37), Err(10));
+        assert_eq!(answer(b'L', &SHORTS, exercised, 0), Err(10));
+        assert_eq!(answer(b'L', &SHORTS, exercised, 10_001), Err(10));
+        assert_eq!(answer(b'L', &SHORTS, exercised, 10_000).unwrap().further, 36);
+    }
+    assert!(answer(b'P', &SHORTS, 13, u32::MAX).is_ok());
+    assert_eq!(answer(b'P', &SHORTS, 36, 0).unwrap().further, 0);
+}
+
+#[test]
+fn a_whole_series_needs_no_draw() {
+    for method in [b'W', b'P', b'L'] {
+        for draw in DRAWS {
+            let whole = Allocation { amounts: SHORTS.to_vec(), total: 36, further: 0 };
+            assert_eq!(answer(method, &SHORTS, 36, draw), Ok(whole), "{method} {draw}");
+        }
+    }
+}
+
+#[test]
+fn one_position_needs_no_draw_under_l() {
+    for exercised in 1..=36 {
+        for draw in DRAWS {
+            let all = Ok(Allocation { amounts: vec![exercised], total: 36, further: 0 });
+            assert_eq!(answer(b'L', &[36], exercised, draw), all, "{draw}");
+            let wheel = answer(b'W', &[36], exercised, draw);
+            if exercised == 36 {
+                assert_eq!(wheel, all, "{draw}");
+            } else if (1..=36).contains(&draw) {
+                assert_eq!(wheel.unwrap().amounts, [exercised], "{draw}");
+            } else {
+                assert_eq!(wheel, Err(10), "{draw}");
+            }
+        }
+    }
+    assert_eq!(answer(b'L', &[1, 35], 35, 0), Err(10));
+    assert_eq!(answer(b'L', &[1, 35], 36, 0).unwrap().further, 0);
+}
+
+#[test]
+fn exercised_is_judged_before_the_draw() {
+    for method in [b'W', b'P', b'L'] {
+        for shorts in [&SHORTS[..], &[36]] {
+            for draw in DRAWS {
+                assert_eq!(answer(method, shorts, 0, draw), Err(8));
+                assert_eq!(answer(method, shorts, 37, draw), Err(9));
+            }
+        }
+    }
 }
 
 #[test]
@@ -162,7 +207,8 @@ fn allocating_refusals_in_order() {
     assert_eq!(allocate(b'W', &[1, 2], &[u32::MAX, u32::MAX], 0, 0, 2), Err(7));
     assert_eq!(allocate(b'W', &[1], &[10_000_000], 0, 0, 1), Err(8));
     assert_eq!(allocate(b'W', &[1], &[10_000_000], 10_000_001, 0, 1), Err(9));
-    assert_eq!(allocate(b'W', &[1], &[10_000_000], 10_000_000, 0, 1), Err(10));
+    assert_eq!(allocate(b'W', &[1], &[10_000_000], 9_999_999, 0, 1), Err(10));
+    assert_eq!(allocate(b'W', &[1], &[10_000_000], 10_000_000, 0, 1).map(|a| a.total), Ok(10_000_000));
     assert_eq!(allocate(b'P', &[u32::MAX], &[10_000_000], 10_000_000, 0, 1).map(|a| a.total), Ok(10_000_000));
 }
 
@@ -246,7 +292,13 @@ fn printed_refusals() {
     assert_eq!(printed(b""), b"refused\n12\n");
     assert_eq!(printed(&text("W,1,1\n", "account,short\n", "")), b"refused\n3\n");
     assert_eq!(printed(&text("W,1,1\n", "account,short\n", "1,1\n1,0\n")), b"refused\n5\n");
-    assert_eq!(printed(&text("W,1,2\n", "account,short\n", "1,1\n")), b"refused\n10\n");
+    assert_eq!(printed(&text("W,1,3\n", "account,short\n", "1,2\n")), b"refused\n10\n");
+    assert_eq!(printed(&text("L,1,0\n", "account,short\n", "1,1\n2,1\n")), b"refused\n10\n");
+    // A text always has a draw, also where it is not judged.
+    for (line, rest) in [("W,1,2\n", "1,1\n"), ("L,1,0\n", "1,1\n"), ("L,1,0\n", "1,2\n")] {
+        assert_eq!(printed(&text(line, "account,short\n", rest)), b"account,assigned\n1,1\n");
+    }
+    assert_eq!(printed(&text("W,1,\n", "account,short\n", "1,1\n")), b"refused\n13\n");
     assert_eq!(respond(b"", 10), Err(4));
     assert_eq!(respond(b"", 11), Ok(b"refused\n12\n".to_vec()));
 }

@@ -1,4 +1,4 @@
--- `allocate_lottery` meets its contract: a refused call keeps its output, any other is assigned from the starting place.
+-- `allocate_lottery` meets its contract: a refused call keeps its output, any other is assigned by the draw.
 use borrow.Author.Needs.{needs}
 use mathlib.Core.Path.{refl, sym, ap, _∙_}
 use lib.ListN.{length}
@@ -7,7 +7,8 @@ use Rattle.series.specs.Series.{Series}
 use Rattle.series.specs.declared.Method.{Method}
 use Rattle.judging.specs.Judged.{judgedOf}
 use Rattle.judging.proofs.CallLaws.{fits, call-refused, call-requires, call-allocated}
-use Rattle.allocation.proofs.AllocateLaws.{start-requires, lottery-requires, lottery-gives}
+use Rattle.allocation.specs.Lottery.{startOf}
+use Rattle.allocation.proofs.AllocateLaws.{draw-requires, lottery-gives}
 use Rattle.allocation.proofs.allocate_lottery.Statement.{statement}
 use Rattle.allocation.proofs.allocate_lottery.Tie as tie
 
@@ -20,23 +21,24 @@ enum-known-refusal c = search needs
 enum-known-total : tie.Need-enum-known-total
 enum-known-total c = search needs
 
-starting-place-requires : tie.Need-starting-place-requires
-starting-place-requires c κs = let a = c .before .before .before .before .before .before .before .args in
-    let call = call-requires (record { terms = record { method = Method.Lottery; exercised = a .exercised; draw = a .draw }; accounts = a .accounts .now; shorts = a .shorts .now }) (a .amounts .now) (c .before .total .given .0 .0 .0) (sym (ap judgedOf (c .before .total .given .1)) ∙ c .before .before .before .judge .ensures) in
-    start-requires (record { method = Method.Lottery; exercised = a .exercised; draw = a .draw }) (a .shorts .now) _ (c .before .total .given .0 .0 .0) (call .0) (call .1) refl
+slice-relend-prefix-assign-by-draw : tie.Need-slice-relend-prefix-assign-by-draw
+slice-relend-prefix-assign-by-draw c = let a = c .before .before .before .before .before .before .before .args in
+    fits (record { terms = record { method = Method.Lottery; exercised = a .exercised; draw = a .draw }; accounts = a .accounts .now; shorts = a .shorts .now }) (a .amounts .now) (c .before .total .given .0 .0 .0) (sym (ap judgedOf (c .before .total .given .1)) ∙ c .before .before .before .judge .ensures)
 
-slice-relend-prefix-assign : tie.Need-slice-relend-prefix-assign
-slice-relend-prefix-assign c = let a = c .before .before .before .before .before .before .before .before .args in
-    fits (record { terms = record { method = Method.Lottery; exercised = a .exercised; draw = a .draw }; accounts = a .accounts .now; shorts = a .shorts .now }) (a .amounts .now) (c .before .before .total .given .0 .0 .0) (sym (ap judgedOf (c .before .before .total .given .1)) ∙ c .before .before .before .before .judge .ensures)
+slice-aggregate-assign-by-draw : tie.Need-slice-aggregate-assign-by-draw
+slice-aggregate-assign-by-draw c = let a = c .before .before .before .before .before .before .before .before .args in
+    sym (length-take-le (length (a .shorts .now)) (a .amounts .now) (fits (record { terms = record { method = Method.Lottery; exercised = a .exercised; draw = a .draw }; accounts = a .accounts .now; shorts = a .shorts .now }) (a .amounts .now) (c .before .before .total .given .0 .0 .0) (sym (ap judgedOf (c .before .before .total .given .1)) ∙ c .before .before .before .before .judge .ensures)))
 
-slice-aggregate-assign : tie.Need-slice-aggregate-assign
-slice-aggregate-assign c = let a = c .before .before .before .before .before .before .before .before .before .args in
-    sym (length-take-le (length (a .shorts .now)) (a .amounts .now) (fits (record { terms = record { method = Method.Lottery; exercised = a .exercised; draw = a .draw }; accounts = a .accounts .now; shorts = a .shorts .now }) (a .amounts .now) (c .before .before .before .total .given .0 .0 .0) (sym (ap judgedOf (c .before .before .before .total .given .1)) ∙ c .before .before .before .before .before .judge .ensures)))
+assign-by-draw-requires : tie.Need-assign-by-draw-requires
+assign-by-draw-requires c κs = let a = c .before .before .before .before .before .before .before .before .args in
+    let call = call-requires (record { terms = record { method = Method.Lottery; exercised = a .exercised; draw = a .draw }; accounts = a .accounts .now; shorts = a .shorts .now }) (a .amounts .now) (c .before .before .total .given .0 .0 .0) (sym (ap judgedOf (c .before .before .total .given .1)) ∙ c .before .before .before .before .judge .ensures) in
+    draw-requires (record { method = Method.Lottery; exercised = a .exercised; draw = a .draw }) (a .shorts .now) _ (c .before .before .total .given .0 .0 .0) (call .0) (call .1) refl
 
-assign-requires : tie.Need-assign-requires
-assign-requires c κs = let a = c .before .before .before .before .before .before .before .before .before .args in
-    let call = call-requires (record { terms = record { method = Method.Lottery; exercised = a .exercised; draw = a .draw }; accounts = a .accounts .now; shorts = a .shorts .now }) (a .amounts .now) (c .before .before .before .total .given .0 .0 .0) (sym (ap judgedOf (c .before .before .before .total .given .1)) ∙ c .before .before .before .before .before .judge .ensures) in
-    lottery-requires (record { method = Method.Lottery; exercised = a .exercised; draw = a .draw }) (a .shorts .now) _ (c .before .before .before .total .given .0 .0 .0) (call .0) (call .1) refl (c .before .starting-place .result .0) (c .before .starting-place .ensures)
+enum-known-start : tie.Need-enum-known-start
+enum-known-start c = search needs
+
+enum-told : tie.Need-enum-told
+enum-told c = search needs
 
 returns : tie.Need-returns
 returns c = let a = c .before .before .before .before .before .before .before .args in
@@ -46,11 +48,23 @@ same-length : tie.Need-same-length
 same-length c = search needs
 
 returns-2 : tie.Need-returns-2
-returns-2 c = let a = c .before .before .before .before .before .before .before .before .before .before .before .before .args in
-    let T = c .before .before .before .before .before .before .total .given .0 .0 .0 in
-    let v = (sym (ap judgedOf (c .before .before .before .before .before .before .total .given .1)) ∙ c .before .before .before .before .before .before .before .before .judge .ensures) in
+returns-2 c = let a = c .before .before .before .before .before .before .before .before .before .before .before .before .before .before .args in
+    let T = c .before .before .before .before .before .before .before .before .total .given .0 .0 .0 in
+    let v = (sym (ap judgedOf (c .before .before .before .before .before .before .before .before .total .given .1)) ∙ c .before .before .before .before .before .before .before .before .before .before .judge .ensures) in
     let call = call-requires (record { terms = record { method = Method.Lottery; exercised = a .exercised; draw = a .draw }; accounts = a .accounts .now; shorts = a .shorts .now }) (a .amounts .now) T v in
-    call-allocated (record { terms = record { method = Method.Lottery; exercised = a .exercised; draw = a .draw }; accounts = a .accounts .now; shorts = a .shorts .now }) (a .amounts .now) T v _ (c .before .before .assign .last .1 .1 .1 .0) (lottery-gives (record { method = Method.Lottery; exercised = a .exercised; draw = a .draw }) (a .shorts .now) _ T (call .0) (call .1) refl (c .before .before .before .before .starting-place .result .0) _ (c .before .before .before .before .starting-place .ensures) (c .before .before .assign .ensures))
+    let done = c .before .before .before .before .before .assign-by-draw in
+    call-allocated (record { terms = record { method = Method.Lottery; exercised = a .exercised; draw = a .draw }; accounts = a .accounts .now; shorts = a .shorts .now }) (a .amounts .now) T v _ (done .last .1 .1 .1 .1 .0) (lottery-gives (record { method = Method.Lottery; exercised = a .exercised; draw = a .draw }) (a .shorts .now) _ T (call .0) (call .1) refl _ _ (sym (ap startOf (c .before .start .given .1)) ∙ done .ensures .0) (done .ensures .1))
+
+same-length-2 : tie.Need-same-length-2
+same-length-2 c = search needs
+
+returns-3 : tie.Need-returns-3
+returns-3 c = let a = c .before .before .before .before .before .before .before .before .before .before .before .before .before .args in
+    let T = c .before .before .before .before .before .before .before .total .given .0 .0 .0 in
+    let v = (sym (ap judgedOf (c .before .before .before .before .before .before .before .total .given .1)) ∙ c .before .before .before .before .before .before .before .before .before .judge .ensures) in
+    let call = call-requires (record { terms = record { method = Method.Lottery; exercised = a .exercised; draw = a .draw }; accounts = a .accounts .now; shorts = a .shorts .now }) (a .amounts .now) T v in
+    let done = c .before .before .before .before .assign-by-draw in
+    call-allocated (record { terms = record { method = Method.Lottery; exercised = a .exercised; draw = a .draw }; accounts = a .accounts .now; shorts = a .shorts .now }) (a .amounts .now) T v _ (done .last .1 .1 .1 .1 .0) (lottery-gives (record { method = Method.Lottery; exercised = a .exercised; draw = a .draw }) (a .shorts .now) _ T (call .0) (call .1) refl _ _ (sym (ap startOf (c .enum-told .given .1)) ∙ done .ensures .0) (done .ensures .1))
 
 pub allocate-lottery-spec : {M : Type 1} → statement M
 allocate-lottery-spec =
@@ -59,10 +73,13 @@ allocate-lottery-spec =
     judge-requires
     enum-known-refusal
     enum-known-total
-    starting-place-requires
-    slice-relend-prefix-assign
-    slice-aggregate-assign
-    assign-requires
+    slice-relend-prefix-assign-by-draw
+    slice-aggregate-assign-by-draw
+    assign-by-draw-requires
+    enum-known-start
+    enum-told
     returns
     same-length
-    returns-2)
+    returns-2
+    same-length-2
+    returns-3)

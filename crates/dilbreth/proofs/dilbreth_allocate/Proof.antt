@@ -35,6 +35,9 @@ enum-known-sum-2 c = search needs
 enum-known-sum-3 : tie.Need-enum-known-sum-3
 enum-known-sum-3 c = search needs
 
+enum-known-sum-4 : tie.Need-enum-known-sum-4
+enum-known-sum-4 c = search needs
+
 enum-known-refusal : tie.Need-enum-known-refusal
 enum-known-refusal c = search needs
 
@@ -69,7 +72,15 @@ same-length-4 : tie.Need-same-length-4
 same-length-4 c = search needs
 
 returns-5 : tie.Need-returns-5
-returns-5 c = let a = c .before .before .before .before .before .before .before .before .before .before .before .before .before .before .before .before .args in
+returns-5 c = let a = c .before .before .before .before .before .before .before .before .before .before .before .before .before .before .before .args in
+    let call = c .before .before .before .before .before .allocate in
+    allocate-known (a .method) (a .exercised) (a .draw) (a .accounts .now) (a .shorts .now) _ (sym (ap namedMeans (c .before .before .before .before .before .before .before .before .before .named .given .1)) ∙ c .before .before .before .before .before .before .before .before .before .before .before .method-by .ensures) _ (c .before .before .before .before .before .before .before .terms-of .ensures) _ (a .amounts .now) _ (a .total .now) (a .further .now) (sym (ap answerOf (c .before .sum4 .given .1)) ∙ call .ensures .answered) (call .ensures .written)
+
+same-length-5 : tie.Need-same-length-5
+same-length-5 c = search needs
+
+returns-6 : tie.Need-returns-6
+returns-6 c = let a = c .before .before .before .before .before .before .before .before .before .before .before .before .before .before .before .before .args in
     let call = c .before .before .before .before .before .before .allocate in
     rw (c .number .ensures) (allocate-known (a .method) (a .exercised) (a .draw) (a .accounts .now) (a .shorts .now) _ (sym (ap namedMeans (c .before .before .before .before .before .before .before .before .before .before .named .given .1)) ∙ c .before .before .before .before .before .before .before .before .before .before .before .before .method-by .ensures) _ (c .before .before .before .before .before .before .before .before .terms-of .ensures) _ (a .amounts .now) _ (a .total .now) (a .further .now) (sym (ap answerOf (c .before .before .refusal .given .1)) ∙ call .ensures .answered) (call .ensures .written))
 
@@ -86,6 +97,7 @@ dilbreth-allocate-spec =
     enum-known-sum
     enum-known-sum-2
     enum-known-sum-3
+    enum-known-sum-4
     enum-known-refusal
     number-requires
     same-length
@@ -95,4 +107,6 @@ dilbreth-allocate-spec =
     same-length-3
     returns-4
     same-length-4
-    returns-5)
+    returns-5
+    same-length-5
+    returns-6)

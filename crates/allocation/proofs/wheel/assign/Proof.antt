@@ -31,7 +31,7 @@ last-block-requires : tie.Need-last-block-requires
 last-block-requires c κs = search needs
 
 seek-requires : tie.Need-seek-requires
-seek-requires c κs = search needs
+seek-requires c κs = let call = c .before .before .before .before .before .before .before .before .before .before .before .pre in rw (← call .sum) (call .start (c .before .before .before .before .before .before .if1 .left))
 
 interval-requires : tie.Need-interval-requires
 interval-requires c κs =

@@ -1,0 +1,180 @@
+-- What is decided before the draw: known series, and what it changes of the earlier rule, under which every draw was judged.
+use Prim.Native.Nat.{ℕ}
+use mathlib.Core.Path.{_≡_, refl, sym, ap, _∙_}
+use mathlib.Core.Bool.{Bool, true, false, cond}
+use mathlib.Core.List.{List, [], _∷_, _++_, map, append-assoc}
+use native.Mathlib.Omega.{arith}
+use lib.ListN.{length}
+use Rattle.series.specs.Results.{Result, refused, value, _>>=_}
+use Rattle.series.specs.Series.{Series, method, exercised, draw, held, byMethod}
+use Rattle.series.specs.Wheel.{wheel}
+use Rattle.series.specs.ProRata.{proRata}
+use Rattle.series.specs.Lottery.{startingPlace, lottery, lotteryAmounts}
+use Rattle.series.specs.Refusals.{Row, _⟶_∣_, first, NoneApplies, exercisedRows, outside, undrawn, drawRows, thenDrawRows, listRows, rows, verdict}
+use Rattle.series.specs.Call.{INCREMENT, assigned}
+use Rattle.series.specs.declared.Method.{Method}
+use Rattle.series.specs.declared.Method.the-variants.{Wheel, ProRata, Lottery}
+use Rattle.series.specs.declared.Terms.{Terms}
+use Rattle.series.proofs.ResultLaws.{never, stepped}
+use Rattle.series.proofs.RowLaws.{first-append, value-passed, value-same}
+use Rattle.series.proofs.AcceptedLaws.{Facts, accepted-facts, verdict-accepted}
+use Rattle.series.proofs.CallLaws.{lottery-draw, starting-on}
+use Rattle.series.proofs.LotteryLaws.{lottery-amounts}
+use Rattle.series.proofs.Starred.{series, calledOn, allocated, undrawnBy, turnedAway, M-shorts}
+
+abbrev MOST_DRAW : ℕ
+MOST_DRAW = 4294967295
+
+-- S equal to T under W and L, with draw 0, a good one and the largest; one position under L, with the same draws, and with S equal to T too;
+-- one position under W without a draw, with S below T and equal to it; one position and no draw, with S = 0 and above T
+pub decided : List Series
+decided =
+    series Wheel M-shorts 36 0 ∷
+    series Wheel M-shorts 36 18 ∷
+    series Wheel M-shorts 36 MOST_DRAW ∷
+    series Lottery M-shorts 36 0 ∷
+    series Lottery M-shorts 36 4855 ∷
+    series Lottery M-shorts 36 MOST_DRAW ∷
+    series Lottery (36 ∷ []) 13 0 ∷
+    series Lottery (36 ∷ []) 13 4855 ∷
+    series Lottery (36 ∷ []) 13 MOST_DRAW ∷
+    series Lottery (36 ∷ []) 36 0 ∷
+    series Wheel (36 ∷ []) 13 0 ∷
+    series Wheel (36 ∷ []) 36 0 ∷
+    series Wheel (36 ∷ []) 0 0 ∷
+    series Wheel (36 ∷ []) 37 0 ∷
+    series Lottery (36 ∷ []) 0 0 ∷
+    series Lottery (36 ∷ []) 37 0 ∷
+    []
+
+pub decided-known : map calledOn decided ≡
+    allocated Wheel 36 0 M-shorts ∷
+    allocated Wheel 36 0 M-shorts ∷
+    allocated Wheel 36 0 M-shorts ∷
+    undrawnBy 36 M-shorts ∷
+    undrawnBy 36 M-shorts ∷
+    undrawnBy 36 M-shorts ∷
+    undrawnBy 36 (13 ∷ []) ∷
+    undrawnBy 36 (13 ∷ []) ∷
+    undrawnBy 36 (13 ∷ []) ∷
+    undrawnBy 36 (36 ∷ []) ∷
+    turnedAway 1 10 ∷
+    allocated Wheel 36 0 (36 ∷ []) ∷
+    turnedAway 1 8 ∷
+    turnedAway 1 9 ∷
+    turnedAway 1 8 ∷
+    turnedAway 1 9 ∷
+    []
+unfolding calledOn decided
+decided-known = refl
+
+-- ---- the earlier rule
+
+module _ (s : Series) (room : ℕ) where
+  -- the rows above the draw's
+  abbrev above : List Row
+  above = listRows (s .accounts) (s .shorts) room ++ exercisedRows (held s) (exercised s)
+
+  -- judging, by rows of the draw
+  abbrev judgedBy : List Row → Result ℕ
+  judgedBy draws = first (listRows (s .accounts) (s .shorts) room ++ (exercisedRows (held s) (exercised s) ++ draws)) (held s)
+
+  -- every draw was judged
+  pub earlierVerdict : Result ℕ
+  earlierVerdict = judgedBy (drawRows (s .terms) (held s))
+
+  in-parts : (draws : List Row) → judgedBy draws ≡ first above (held s) >>= first draws
+  in-parts draws =
+      ap (λ xs. first xs (held s)) (sym (append-assoc (listRows (s .accounts) (s .shorts) room) (exercisedRows (held s) (exercised s)) draws))
+      ∙ first-append above draws (held s)
+
+-- and under L every amount came from the starting place
+pub earlierAssigned : Series → List ℕ
+earlierAssigned s =
+    byMethod (method s)
+    (wheel INCREMENT (s .shorts) (exercised s) (draw s))
+    (proRata (s .shorts) (exercised s) (draw s))
+    (lottery (s .shorts) (exercised s) (startingPlace (held s) (draw s)))
+
+-- ---- rows below a result r, and none where b
+
+value-stays : (r : Result ℕ) (b : Bool) (draws : List Row) (T : ℕ) → (r >>= first draws) ≡ value T → (r >>= first (cond b [] draws)) ≡ value T
+unfolding first
+value-stays (refused n) b draws T h = h
+value-stays (value T′) true draws T h = ap value (value-same draws T′ T h)
+value-stays (value T′) false draws T h = h
+
+none-new : (r : Result ℕ) (b : Bool) (draws : List Row) (n : ℕ) → (r >>= first (cond b [] draws)) ≡ refused n → (r >>= first draws) ≡ refused n
+unfolding first
+none-new (refused m) b draws n h = h
+none-new (value T) true draws n h = absurd (never n T (sym h))
+none-new (value T) false draws n h = h
+
+others-stay : (r : Result ℕ) (b : Bool) (draws : List Row) (n : ℕ) → ((T : ℕ) → first draws T ≡ refused n → ⊥) → (r >>= first draws) ≡ refused n → (r >>= first (cond b [] draws)) ≡ refused n
+others-stay (refused m) b draws n other h = h
+others-stay (value T) true draws n other h = absurd (other T h)
+others-stay (value T) false draws n other h = h
+
+-- a draw is refused by 10 alone
+row-ten : (b : Bool) (T n : ℕ) → first (b ⟶ 10 ∣ []) T ≡ refused n → n ≡ 10
+unfolding first
+row-ten true T n h = cc
+row-ten false T n h = absurd (never n T (sym h))
+
+draw-ten : (t : Terms) (T T′ n : ℕ) → first (drawRows t T) T′ ≡ refused n → n ≡ 10
+unfolding drawRows first
+draw-ten t T T′ n = by-cases (t .method)
+  where
+    by-cases : (m : Method) → first (byMethod m (outside T (t .draw) ⟶ 10 ∣ []) [] (outside 10000 (t .draw) ⟶ 10 ∣ [])) T′ ≡ refused n → n ≡ 10
+    by-cases Method.Wheel h = row-ten (outside T (t .draw)) T′ n h
+    by-cases Method.ProRata h = absurd (never n T′ (sym h))
+    by-cases Method.Lottery h = row-ten (outside 10000 (t .draw)) T′ n h
+
+-- ---- what stays
+
+module _ (s : Series) (room : ℕ) where
+  abbrev b : Bool
+  b = undrawn (s .terms) (held s) (length (s .shorts))
+
+  abbrev draws : List Row
+  draws = drawRows (s .terms) (held s)
+
+  earlier-parts : earlierVerdict s room ≡ first (above s room) (held s) >>= first draws
+  unfolding earlierVerdict
+  earlier-parts = in-parts s room draws
+
+  verdict-parts : verdict s room ≡ first (above s room) (held s) >>= first (cond b [] draws)
+  unfolding verdict rows thenDrawRows
+  verdict-parts = in-parts s room (cond b [] draws)
+
+  -- a call that was allocated is allocated
+  pub still-allocated : (T : ℕ) → earlierVerdict s room ≡ value T → verdict s room ≡ value T
+  still-allocated T h = verdict-parts ∙ value-stays (first (above s room) (held s)) b draws T (sym earlier-parts ∙ h)
+
+  -- with the same amounts
+  pub same-amounts : (T : ℕ) → earlierVerdict s room ≡ value T → assigned s ≡ earlierAssigned s
+  unfolding assigned earlierAssigned
+  same-amounts T h = by-cases (method s) refl
+    where
+      facts : Facts s
+      facts = accepted-facts s room (verdict-accepted s room T (still-allocated T h))
+
+      drawn : NoneApplies draws
+      drawn = let step = stepped (first (above s room) (held s)) (first draws) T (sym earlier-parts ∙ h) in value-passed draws (step .from) T (step .on)
+
+      by-cases : (m : Method) → method s ≡ m → byMethod m (wheel INCREMENT (s .shorts) (exercised s) (draw s)) (proRata (s .shorts) (exercised s) (draw s)) (lotteryAmounts (s .shorts) (exercised s) (startingPlace (held s) (draw s)))
+          ≡ byMethod m (wheel INCREMENT (s .shorts) (exercised s) (draw s)) (proRata (s .shorts) (exercised s) (draw s)) (lottery (s .shorts) (exercised s) (startingPlace (held s) (draw s)))
+      by-cases Method.Wheel e = refl
+      by-cases Method.ProRata e = refl
+      by-cases Method.Lottery e =
+          lottery-amounts (s .shorts) (exercised s) (startingPlace (held s) (draw s)) (starting-on (held s) (draw s) (omega (arith, facts .exercised-some, facts .exercised-most)) (lottery-draw (s .terms) (held s) e drawn))
+
+  -- a call that was refused is refused alike, 10 alone excepted
+  pub still-refused : (n : ℕ) → earlierVerdict s room ≡ refused n → (n ≡ 10 → ⊥) → verdict s room ≡ refused n
+  still-refused n h other =
+      verdict-parts
+      ∙ others-stay (first (above s room) (held s)) b draws n (λ T e. other (draw-ten (s .terms) (held s) T n e)) (sym earlier-parts ∙ h)
+
+  -- and none that was allocated, or refused otherwise, is refused now
+  pub refused-before : (n : ℕ) → verdict s room ≡ refused n → earlierVerdict s room ≡ refused n
+  refused-before n h = earlier-parts ∙ none-new (first (above s room) (held s)) b draws n (sym verdict-parts ∙ h)

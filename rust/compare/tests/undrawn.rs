@@ -1,0 +1,139 @@
+// Series that need no draw (S equal to T under W and L, one position under L), and the calls next to them.
+
+use compare::make::{self, Series};
+use compare::program::{self, Feed};
+use compare::random::Random;
+use compare::{cases, Count};
+use reference::Allocation;
+
+// Each method with S around 0 and T, and draws in and out of range.
+fn terms(list: &Series) -> Vec<(u8, u32, u32)> {
+    let total = list.total() as u32;
+    let mut all = Vec::new();
+    for method in make::METHODS {
+        for exercised in [0, 1, total - 1, total, total + 1] {
+            all.extend(make::draws(total).map(|draw| (method, exercised, draw)));
+        }
+    }
+    all
+}
+
+// Random lists, one in three of a single position.
+fn random_lists(random: &mut Random, count: usize) -> Vec<Series> {
+    let list = |_| {
+        let positions = if random.one_in(3) { 1 } else { random.spread(60) };
+        let total = positions.max(random.spread(30_000));
+        make::series(random, positions as usize, total, true)
+    };
+    (0..count).map(list).collect()
+}
+
+#[test]
+fn allocating() {
+    let mut random = Random::new(0xD4A3_0001);
+    let mut count = Count::new("no draw needed, allocating");
+    let mut lists = random_lists(&mut random, 400);
+    let ones = [1, 2, 24, 25, 26, 9_999, 10_000, 10_001, 10_000_000].map(|total| (1, total));
+    let others = [(2, 2), (2, 10_000), (2, 10_001), (25, 25), (4_096, 4_096), (4_096, 10_000_000)];
+    for (positions, total) in ones.into_iter().chain(others) {
+        lists.push(make::series(&mut random, positions, total, true));
+    }
+    for list in lists {
+        for (method, exercised, draw) in terms(&list) {
+            count.allocate(method, &list.accounts, &list.shorts, exercised, draw, list.shorts.len() + 1);
+        }
+    }
+    count.print();
+    assert!(!count.undrawn().contains(&0));
+}
+
+// The texts of the lists' series; `run` answers whether one was allocated.
+fn texts(what: &'static str, lists: &[Series], run: impl Fn(&[u8]) -> Result<bool, String>) {
+    let mut count = Count::new(what);
+    for list in lists {
+        for (method, exercised, draw) in terms(list) {
+            let text = reference::write(method, exercised, draw, &list.accounts, &list.shorts, usize::MAX);
+            if count.case(run(&text.expect("a text"))) {
+                count.allocated(method, &list.shorts, exercised, draw);
+            }
+        }
+    }
+    count.print();
+    assert!(!count.undrawn().contains(&0));
+}
+
+#[test]
+fn responding() {
+    let lists = random_lists(&mut Random::new(0xD4A3_0002), 100);
+    texts("no draw needed, responding", &lists, |text| {
+        let printed = reference::printed(text);
+        compare::respond(text, printed.len() - 1)?;
+        compare::respond(text, printed.len())?;
+        Ok(!printed.starts_with(b"refused"))
+    });
+}
+
+#[test]
+fn running_the_program() {
+    let lists = random_lists(&mut Random::new(0xD4A3_0003), 6);
+    texts("no draw needed, program", &lists, |text| program::compare(text, Feed::Pipe));
+}
+
+// The answer as it was before: the draw is judged before anything is decided.
+fn before(method: u8, list: &Series, exercised: u32, draw: u32, room: usize) -> Result<Allocation, u32> {
+    let total = reference::judge(method, &list.accounts, &list.shorts, exercised, room)?;
+    reference::judge_draw(method, total, draw)?;
+    let (amounts, further) = if method == b'W' && exercised == total {
+        (list.shorts.clone(), 0)
+    } else {
+        reference::by_draw(method, &list.shorts, total, exercised, draw)
+    };
+    Ok(Allocation { amounts, total, further })
+}
+
+// Holds an answer against the one before: 0 for an allocation and 1 for a refusal that are the same, 2 for a starting
+// place that is 0 now, 3 for a draw that is no longer refused.
+fn hold(method: u8, list: &Series, exercised: u32, draw: u32, room: usize) -> usize {
+    let before = before(method, list, exercised, draw, room);
+    let after = reference::allocate(method, &list.accounts, &list.shorts, exercised, draw, room);
+    let whole = u64::from(exercised) == list.total();
+    let one = method == b'L' && list.shorts.len() == 1;
+    let expected = match before.clone() {
+        Ok(a) if method == b'L' && (whole || one) => Ok(Allocation { further: 0, ..a }),
+        Err(10) if whole => Ok(Allocation { amounts: list.shorts.clone(), total: exercised, further: 0 }),
+        Err(10) if one => Ok(Allocation { amounts: vec![exercised], total: list.shorts[0], further: 0 }),
+        other => other,
+    };
+    assert_eq!(after, expected, "{}", cases::allocate(method, &list.accounts, &list.shorts, exercised, draw, room));
+    usize::from(before.is_err()) + 2 * usize::from(before != after)
+}
+
+#[test]
+fn before_and_after() {
+    let mut change = [0; 4];
+    for total in 1..=6 {
+        let places = (1..=total).map(|place| place * 10_000 / total);
+        let draws: Vec<u32> = make::draws(total).into_iter().chain(3..total).chain(places).collect();
+        for list in make::lists(total) {
+            for method in *b"WPLX" {
+                for exercised in 0..=total + 1 {
+                    for &draw in &draws {
+                        change[hold(method, &list, exercised, draw, list.shorts.len())] += 1;
+                    }
+                }
+            }
+        }
+    }
+    let mut random = Random::new(0xD4A3_0004);
+    for _ in 0..20_000 {
+        for make::Call { method, list, exercised, draw, room } in make::calls(&mut random, 12, 400) {
+            change[hold(method, &list, exercised, draw, room)] += 1;
+        }
+    }
+    let [allocated, refused, placed, drawn] = change;
+    println!(
+        "before and after: {allocated} allocated and {refused} refused alike, {placed} with starting place 0 now, \
+         {drawn} no longer refused"
+    );
+    assert!(!change.contains(&0));
+}
