@@ -3,19 +3,20 @@ use Prim.Native.Nat.{ℕ, _≤_}
 use mathlib.Core.Path.{_≡_, refl, sym, ap, ap₂, _∙_}
 use mathlib.Core.Bool.{true, false}
 use mathlib.Core.Option.{Option, none, some}
-use mathlib.Core.List.{List, [], _∷_}
+use mathlib.Core.List.{List, [], _∷_, _++_}
 use native.Mathlib.Omega.{arith}
 use lib.Dec.{eqb}
-use lib.ListN.{length, set}
+use lib.ListN.{length, take, drop, set}
 use borrow.Author.Tests.{eq-eqb, ne-eqb}
 use Rattle.series.specs.Results.{Result, value}
 use Rattle.series.specs.Places.{total}
-use Rattle.series.specs.Series.{MOST_CONTRACTS}
+use Rattle.series.specs.Series.{Series, MOST_CONTRACTS}
 use Rattle.series.specs.Wheel.{wheel, blocksUsed}
 use Rattle.series.specs.Lottery.{lottery, startingPlace, unstarted, lotteryAmounts, startUsed}
-use Rattle.series.specs.Refusals.{NoneApplies, thenDrawRows}
+use Rattle.series.specs.Refusals.{NoneApplies, thenDrawRows, verdict}
 use Rattle.series.specs.Answers.{Allocation}
 use Rattle.series.specs.Call.{INCREMENT, assigned, further}
+use Rattle.series.specs.Fair.{AllocatingCall}
 use Rattle.series.specs.declared.Method.{Method}
 use Rattle.series.specs.declared.Terms.{Terms}
 use Rattle.series.proofs.CallLaws.{wheel-judged, lottery-judged, wheel-draw, lottery-draw, starting-on}
@@ -24,6 +25,7 @@ use Rattle.allocation.specs.Blocks.{Increment, WheelCall}
 use Rattle.allocation.specs.Lottery.{LotteryCall, DrawCall}
 use Rattle.judging.specs.Judged.{JudgedSeries}
 use Rattle.judging.specs.Assigning.{Assigns}
+use Rattle.judging.proofs.CallLaws.{call-requires, call-allocated}
 
 -- an allocation by a method, with T and the further number
 abbrev answered-by : Method → ℕ → Option ℕ → Result Allocation
@@ -47,7 +49,7 @@ module _ (t : Terms) (hs out : List ℕ) (T : ℕ) (judged : JudgedSeries hs T (
         start = λ part. wheel-draw t T e (wheel-judged t T (length hs) e part draw);
       }
 
-  pub draw-requires : t .method ≡ Method.Lottery → DrawCall hs out T S (t .draw)
+  draw-requires : t .method ≡ Method.Lottery → DrawCall hs out T S (t .draw)
   draw-requires e =
       record {
         sized = is-sized;
@@ -65,7 +67,7 @@ module _ (t : Terms) (hs out : List ℕ) (T : ℕ) (judged : JudgedSeries hs T (
         written = λ accounts. rw e ev;
       }
 
-  pub lottery-gives : t .method ≡ Method.Lottery → (f : Option ℕ) (vs : List ℕ) → f ≡ startUsed hs S (startingPlace T (t .draw)) → vs ≡ lotteryAmounts hs S (startingPlace T (t .draw)) → Assigns t hs (answered-by Method.Lottery T f) vs
+  lottery-gives : t .method ≡ Method.Lottery → (f : Option ℕ) (vs : List ℕ) → f ≡ startUsed hs S (startingPlace T (t .draw)) → vs ≡ lotteryAmounts hs S (startingPlace T (t .draw)) → Assigns t hs (answered-by Method.Lottery T f) vs
   unfolding further assigned
   lottery-gives e f vs ef ev =
       let place : startingPlace T (t .draw) ≡ startingPlace (total hs) (t .draw) = ap (λ x. startingPlace x (t .draw)) (judged .sum) in
@@ -73,6 +75,20 @@ module _ (t : Terms) (hs out : List ℕ) (T : ℕ) (judged : JudgedSeries hs T (
         answered = λ accounts. rw e (ap₂ (answered-by Method.Lottery) (judged .sum) (ef ∙ ap (startUsed hs S) place));
         written = λ accounts. rw e (ev ∙ ap (lotteryAmounts hs S) place);
       }
+
+-- the call by the starting number, where it is not turned away
+module _ (t : Terms) (accounts hs old : List ℕ) (T : ℕ) (v : value T ≡ verdict (record { terms = t; accounts = accounts; shorts = hs }) (length old)) (e : t .method ≡ Method.Lottery) where
+  abbrev s : Series
+  s = record { terms = t; accounts = accounts; shorts = hs }
+
+  asked : JudgedSeries hs T (t .exercised .0) (take (length hs) old) × NoneApplies (thenDrawRows t T (length hs))
+  asked = call-requires s old T v
+
+  pub lottery-asked : DrawCall hs (take (length hs) old) T (t .exercised .0) (t .draw)
+  lottery-asked = draw-requires t hs (take (length hs) old) T (asked .0) (asked .1) e
+
+  pub lottery-called : (f : Option ℕ) (vs : List ℕ) → f ≡ startUsed hs (t .exercised .0) (startingPlace T (t .draw)) → vs ≡ lotteryAmounts hs (t .exercised .0) (startingPlace T (t .draw)) → AllocatingCall s (answered-by Method.Lottery T f) old (vs ++ drop (length hs) old)
+  lottery-called f vs ef ev = call-allocated s old T v (answered-by Method.Lottery T f) vs (lottery-gives t hs (take (length hs) old) T (asked .0) (asked .1) e f vs ef ev)
 
 -- ---- assigning by a draw
 

@@ -1,5 +1,5 @@
 -- What is decided before the draw: known series, and what it changes of the earlier rule, under which every draw was judged.
-use Prim.Native.Nat.{ℕ}
+use Prim.Native.Nat.{ℕ, _+_}
 use mathlib.Core.Path.{_≡_, refl, sym, ap, _∙_}
 use mathlib.Core.Bool.{Bool, true, false, cond}
 use mathlib.Core.List.{List, [], _∷_, _++_, map, append-assoc}
@@ -10,7 +10,7 @@ use Rattle.series.specs.Series.{Series, method, exercised, draw, held, b
 use Rattle.series.specs.Wheel.{wheel}
 use Rattle.series.specs.ProRata.{proRata}
 use Rattle.series.specs.Lottery.{startingPlace, lottery, lotteryAmounts}
-use Rattle.series.specs.Refusals.{Row, _⟶_∣_, first, NoneApplies, exercisedRows, outside, undrawn, drawRows, thenDrawRows, listRows, rows, verdict}
+use Rattle.series.specs.Refusals.{Row, _⟶_∣_, first, NoneApplies, lengthRows, roomRows, positionRows, exercisedRows, outside, undrawn, drawRows, thenDrawRows, listRows, rows, verdict}
 use Rattle.series.specs.Call.{INCREMENT, assigned}
 use Rattle.series.specs.declared.Method.{Method}
 use Rattle.series.specs.declared.Method.the-variants.{Wheel, ProRata, Lottery}
@@ -130,6 +130,39 @@ draw-ten t T T′ n = by-cases (t .method)
     by-cases Method.ProRata h = absurd (never n T′ (sym h))
     by-cases Method.Lottery h = row-ten (outside 10000 (t .draw)) T′ n h
 
+-- no row has the number 10
+NoTen : List Row → Type 0
+NoTen [] = Unit
+NoTen (r ∷ rows) = (r .number ≡ 10 → ⊥) × NoTen rows
+
+no-ten-append : (xs ys : List Row) → NoTen xs → NoTen ys → NoTen (xs ++ ys)
+unfolding NoTen
+no-ten-append [] ys k l = l
+no-ten-append (x ∷ xs) ys k l = (k .0, no-ten-append xs ys (k .1) l)
+
+no-ten-positions : (before sum : ℕ) (accounts shorts : List ℕ) → NoTen (positionRows before sum accounts shorts)
+unfolding NoTen positionRows
+no-ten-positions before sum [] hs = tt
+no-ten-positions before sum (a ∷ rest) [] = tt
+no-ten-positions before sum (a ∷ rest) (h ∷ hs) = (λ e. omega arith, (λ e. omega arith, (λ e. omega arith, no-ten-positions a (sum + h) rest hs)))
+
+-- so they do not refuse with it
+none-ten : (rows : List Row) (T : ℕ) → NoTen rows → first rows T ≡ refused 10 → ⊥
+unfolding NoTen first
+none-ten [] T k h = never 10 T (sym h)
+none-ten (r ∷ rows) T k h = step (r .holds) (none-ten rows T (k .1)) h
+  where
+    step : (c : Bool) → (first rows T ≡ refused 10 → ⊥) → cond c (refused (r .number)) (first rows T) ≡ refused 10 → ⊥
+    step true below e = k .0 cc
+    step false below e = below e
+
+above-no-ten : (s : Series) (room : ℕ) → NoTen (above s room)
+unfolding NoTen listRows lengthRows roomRows exercisedRows
+above-no-ten s room =
+    no-ten-append (listRows (s .accounts) (s .shorts) room) (exercisedRows (held s) (exercised s))
+    (λ e. omega arith, (λ e. omega arith, (λ e. omega arith, (λ e. omega arith, no-ten-positions 0 0 (s .accounts) (s .shorts)))))
+    (λ e. omega arith, (λ e. omega arith, tt))
+
 -- ---- what stays
 
 module _ (s : Series) (room : ℕ) where
@@ -143,13 +176,13 @@ module _ (s : Series) (room : ℕ) where
   unfolding earlierVerdict
   earlier-parts = in-parts s room draws
 
-  verdict-parts : verdict s room ≡ first (above s room) (held s) >>= first (cond b [] draws)
+  now-parts : verdict s room ≡ first (above s room) (held s) >>= first (cond b [] draws)
   unfolding verdict rows thenDrawRows
-  verdict-parts = in-parts s room (cond b [] draws)
+  now-parts = in-parts s room (cond b [] draws)
 
   -- a call that was allocated is allocated
   pub still-allocated : (T : ℕ) → earlierVerdict s room ≡ value T → verdict s room ≡ value T
-  still-allocated T h = verdict-parts ∙ value-stays (first (above s room) (held s)) b draws T (sym earlier-parts ∙ h)
+  still-allocated T h = now-parts ∙ value-stays (first (above s room) (held s)) b draws T (sym earlier-parts ∙ h)
 
   -- with the same amounts
   pub same-amounts : (T : ℕ) → earlierVerdict s room ≡ value T → assigned s ≡ earlierAssigned s
@@ -172,9 +205,22 @@ module _ (s : Series) (room : ℕ) where
   -- a call that was refused is refused alike, 10 alone excepted
   pub still-refused : (n : ℕ) → earlierVerdict s room ≡ refused n → (n ≡ 10 → ⊥) → verdict s room ≡ refused n
   still-refused n h other =
-      verdict-parts
+      now-parts
       ∙ others-stay (first (above s room) (held s)) b draws n (λ T e. other (draw-ten (s .terms) (held s) T n e)) (sym earlier-parts ∙ h)
+
+  -- where nothing is decided before the draw, 10 too
+  pub judged-alike : b ≡ false → verdict s room ≡ earlierVerdict s room
+  judged-alike e = now-parts ∙ ap (λ c. first (above s room) (held s) >>= first (cond c [] draws)) e ∙ sym earlier-parts
+
+  -- where something is, what was refused with 10 is allocated
+  pub ten-allocated : b ≡ true → earlierVerdict s room ≡ refused 10 → verdict s room ≡ value (held s)
+  unfolding first
+  ten-allocated e h = now-parts ∙ ap (λ c. first (above s room) (held s) >>= first (cond c [] draws)) e ∙ by-cases (first (above s room) (held s)) refl (sym earlier-parts ∙ h)
+    where
+      by-cases : (r : Result ℕ) → first (above s room) (held s) ≡ r → (r >>= first draws) ≡ refused 10 → (r >>= first []) ≡ value (held s)
+      by-cases (refused n) k l = absurd (none-ten (above s room) (held s) (above-no-ten s room) (k ∙ l))
+      by-cases (value T) k l = ap value (sym (value-same (above s room) (held s) T k))
 
   -- and none that was allocated, or refused otherwise, is refused now
   pub refused-before : (n : ℕ) → verdict s room ≡ refused n → earlierVerdict s room ≡ refused n
-  refused-before n h = earlier-parts ∙ none-new (first (above s room) (held s)) b draws n (sym verdict-parts ∙ h)
+  refused-before n h = earlier-parts ∙ none-new (first (above s room) (held s)) b draws n (sym now-parts ∙ h)

@@ -1,6 +1,6 @@
 -- What a call that meets no refusal has of its output and its draw.
 use Prim.Native.Nat.{ℕ, suc, _+_, _*_, _/_, _≤_, _<_}
-use mathlib.Core.Path.{_≡_, refl}
+use mathlib.Core.Path.{_≡_, refl, _∙_}
 use mathlib.Core.Bool.{Bool, true, false, _||_}
 use mathlib.Core.List.{List, _++_}
 use native.Mathlib.Omega.{arith}
@@ -56,15 +56,21 @@ draw-judged : (t : Terms) (T n : ℕ) → undrawn t T n ≡ false → NoneApplie
 unfolding thenDrawRows
 draw-judged t T n u h = rw u at h
 
+undrawn-wheel : (t : Terms) (T n : ℕ) → t .method ≡ Method.Wheel → undrawn t T n ≡ eqb (t .exercised .0) T
+unfolding undrawn
+undrawn-wheel t T n e = rw e refl
+
+undrawn-lottery : (t : Terms) (T n : ℕ) → t .method ≡ Method.Lottery → undrawn t T n ≡ unstarted T n (t .exercised .0)
+unfolding undrawn
+undrawn-lottery t T n e = rw e refl
+
 -- under W where S is not T
 pub wheel-judged : (t : Terms) (T n : ℕ) → t .method ≡ Method.Wheel → (t .exercised .0 ≡ T → ⊥) → NoneApplies (thenDrawRows t T n) → NoneApplies (drawRows t T)
-unfolding undrawn
-wheel-judged t T n e part = draw-judged t T n (rw (e, ne-eqb (t .exercised .0) T part))
+wheel-judged t T n e part = draw-judged t T n (undrawn-wheel t T n e ∙ ne-eqb (t .exercised .0) T part)
 
 -- under L where a starting place is needed
 pub lottery-judged : (t : Terms) (T n : ℕ) → t .method ≡ Method.Lottery → unstarted T n (t .exercised .0) ≡ false → NoneApplies (thenDrawRows t T n) → NoneApplies (drawRows t T)
-unfolding undrawn
-lottery-judged t T n e needed = draw-judged t T n (rw (e, needed))
+lottery-judged t T n e needed = draw-judged t T n (undrawn-lottery t T n e ∙ needed)
 
 -- under W a judged draw is a place
 pub wheel-draw : (t : Terms) (T : ℕ) → t .method ≡ Method.Wheel → NoneApplies (drawRows t T) → OnWheel T (t .draw)

@@ -6,9 +6,9 @@ use lib.Seq.{length-take-le}
 use Rattle.series.specs.Series.{Series}
 use Rattle.series.specs.declared.Method.{Method}
 use Rattle.judging.specs.Judged.{judgedOf}
-use Rattle.judging.proofs.CallLaws.{fits, call-refused, call-requires, call-allocated}
+use Rattle.judging.proofs.CallLaws.{fits, call-refused}
 use Rattle.allocation.specs.Lottery.{startOf}
-use Rattle.allocation.proofs.AllocateLaws.{draw-requires, lottery-gives}
+use Rattle.allocation.proofs.AllocateLaws.{lottery-asked, lottery-called}
 use Rattle.allocation.proofs.allocate_lottery.Statement.{statement}
 use Rattle.allocation.proofs.allocate_lottery.Tie as tie
 
@@ -31,8 +31,7 @@ slice-aggregate-assign-by-draw c = let a = c .before .before .before .before .be
 
 assign-by-draw-requires : tie.Need-assign-by-draw-requires
 assign-by-draw-requires c κs = let a = c .before .before .before .before .before .before .before .before .args in
-    let call = call-requires (record { terms = record { method = Method.Lottery; exercised = a .exercised; draw = a .draw }; accounts = a .accounts .now; shorts = a .shorts .now }) (a .amounts .now) (c .before .before .total .given .0 .0 .0) (sym (ap judgedOf (c .before .before .total .given .1)) ∙ c .before .before .before .before .judge .ensures) in
-    draw-requires (record { method = Method.Lottery; exercised = a .exercised; draw = a .draw }) (a .shorts .now) _ (c .before .before .total .given .0 .0 .0) (call .0) (call .1) refl
+    lottery-asked (record { method = Method.Lottery; exercised = a .exercised; draw = a .draw }) (a .accounts .now) (a .shorts .now) (a .amounts .now) (c .before .before .total .given .0 .0 .0) (sym (ap judgedOf (c .before .before .total .given .1)) ∙ c .before .before .before .before .judge .ensures) refl
 
 enum-known-start : tie.Need-enum-known-start
 enum-known-start c = search needs
@@ -49,22 +48,16 @@ same-length c = search needs
 
 returns-2 : tie.Need-returns-2
 returns-2 c = let a = c .before .before .before .before .before .before .before .before .before .before .before .before .before .before .args in
-    let T = c .before .before .before .before .before .before .before .before .total .given .0 .0 .0 in
-    let v = (sym (ap judgedOf (c .before .before .before .before .before .before .before .before .total .given .1)) ∙ c .before .before .before .before .before .before .before .before .before .before .judge .ensures) in
-    let call = call-requires (record { terms = record { method = Method.Lottery; exercised = a .exercised; draw = a .draw }; accounts = a .accounts .now; shorts = a .shorts .now }) (a .amounts .now) T v in
     let done = c .before .before .before .before .before .assign-by-draw in
-    call-allocated (record { terms = record { method = Method.Lottery; exercised = a .exercised; draw = a .draw }; accounts = a .accounts .now; shorts = a .shorts .now }) (a .amounts .now) T v _ (done .last .1 .1 .1 .1 .0) (lottery-gives (record { method = Method.Lottery; exercised = a .exercised; draw = a .draw }) (a .shorts .now) _ T (call .0) (call .1) refl _ _ (sym (ap startOf (c .before .start .given .1)) ∙ done .ensures .0) (done .ensures .1))
+    lottery-called (record { method = Method.Lottery; exercised = a .exercised; draw = a .draw }) (a .accounts .now) (a .shorts .now) (a .amounts .now) (c .before .before .before .before .before .before .before .before .total .given .0 .0 .0) (sym (ap judgedOf (c .before .before .before .before .before .before .before .before .total .given .1)) ∙ c .before .before .before .before .before .before .before .before .before .before .judge .ensures) refl _ _ (sym (ap startOf (c .before .start .given .1)) ∙ done .ensures .0) (done .ensures .1)
 
 same-length-2 : tie.Need-same-length-2
 same-length-2 c = search needs
 
 returns-3 : tie.Need-returns-3
 returns-3 c = let a = c .before .before .before .before .before .before .before .before .before .before .before .before .before .args in
-    let T = c .before .before .before .before .before .before .before .total .given .0 .0 .0 in
-    let v = (sym (ap judgedOf (c .before .before .before .before .before .before .before .total .given .1)) ∙ c .before .before .before .before .before .before .before .before .before .judge .ensures) in
-    let call = call-requires (record { terms = record { method = Method.Lottery; exercised = a .exercised; draw = a .draw }; accounts = a .accounts .now; shorts = a .shorts .now }) (a .amounts .now) T v in
     let done = c .before .before .before .before .assign-by-draw in
-    call-allocated (record { terms = record { method = Method.Lottery; exercised = a .exercised; draw = a .draw }; accounts = a .accounts .now; shorts = a .shorts .now }) (a .amounts .now) T v _ (done .last .1 .1 .1 .1 .0) (lottery-gives (record { method = Method.Lottery; exercised = a .exercised; draw = a .draw }) (a .shorts .now) _ T (call .0) (call .1) refl _ _ (sym (ap startOf (c .enum-told .given .1)) ∙ done .ensures .0) (done .ensures .1))
+    lottery-called (record { method = Method.Lottery; exercised = a .exercised; draw = a .draw }) (a .accounts .now) (a .shorts .now) (a .amounts .now) (c .before .before .before .before .before .before .before .total .given .0 .0 .0) (sym (ap judgedOf (c .before .before .before .before .before .before .before .total .given .1)) ∙ c .before .before .before .before .before .before .before .before .before .judge .ensures) refl _ _ (sym (ap startOf (c .enum-told .given .1)) ∙ done .ensures .0) (done .ensures .1)
 
 pub allocate-lottery-spec : {M : Type 1} → statement M
 allocate-lottery-spec =
