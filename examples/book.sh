@@ -15,7 +15,7 @@ exercised=$(sed -n 2p "$1" | cut -d, -f2)
 assigned=$(awk -F, 'NR > 1 { sum += $2 } END { print sum + 0 }' "$work/list")
 if [ "$(sed -n 1p "$work/list")" != account,assigned ] ||
     [ "$(wc -l <"$work/list")" -ne $((positions + 1)) ] ||
-    [ "$assigned" != "$exercised" ]; then
+    ! [ "$assigned" -eq "$exercised" ]; then
     echo "the list of $1 is not whole" >&2
     exit 1
 fi

@@ -16,7 +16,7 @@
  *   10  the draw is outside 1 to T (W) or 1 to 10,000 (L)
  *   11  the text has more than 32,768 bytes
  *   12  line 1 or line 3 is missing or not exact
- *   13  line 2 or a position line is malformed
+ *   13  bad line 2 or position line (number: 1-10 digits)
  *   14  the method is not W, P or L
  *   15  there are more than 1,024 positions in a text
  *
@@ -79,7 +79,8 @@ uint32_t dilbreth_allocate(uint8_t method,
 /*
  * Reads the text of a series. Refuses 11 to 15 as the text's lines meet them,
  * and last 4 where accounts or shorts is shorter than the positions of the text.
- * The series itself is not judged.
+ * A number has one to ten digits, leading zeros allowed; more are 13. The series
+ * itself is not judged.
  *
  * text          the bytes of the text
  * text_len      its length, at most 32,768
@@ -102,6 +103,7 @@ uint32_t dilbreth_read(const uint8_t *text, size_t text_len,
  * Writes the text of a series. Refuses 14 first, for a method that is none of
  * the three, then 1, then 15 for more than 1,024 positions, then 4 where text is
  * shorter than what there is to write. Accounts, shorts, S and draw are not judged.
+ * No number is written with leading zeros.
  *
  * method        'W', 'P' or 'L'
  * exercised     S

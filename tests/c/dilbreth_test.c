@@ -1,5 +1,5 @@
-/* The archive and its header, from C: case M, starred series, series that need no draw, a refusal of each call, the
-   words for a refusal. */
+/* The archive and its header, from C: case M, starred series, series that need no draw, leading zeros, a refusal of
+   each call, the words for a refusal. */
 #include <inttypes.h>
 #include <stdio.h>
 #include <string.h>
@@ -83,6 +83,31 @@ static void case_m(void)
             memcmp(output, M_ASSIGNED, printed) == 0 && output[printed] == 0xEE);
 }
 
+static void leading_zeros(void)
+{
+    static const char SPELLED[] = "method,exercised,draw\nP,0000000004,00\naccount,short\n0001,5\n0012,003\n";
+    static const char WRITTEN[] = "method,exercised,draw\nP,4,0\naccount,short\n1,5\n12,3\n";
+    static const char ELEVEN[] = "method,exercised,draw\nP,4,0\naccount,short\n00000000001,5\n";
+    static const char TWICE[] = "method,exercised,draw\nP,4,0\naccount,short\n1,5\n0001,3\n";
+    uint32_t accounts[2] = {0}, shorts[2] = {0}, exercised = 0, draw = 9;
+    uint8_t method = 0, text[100];
+    size_t positions = 0, written = 0;
+
+    see("read leading zeros", dilbreth_read((const uint8_t *)SPELLED, sizeof SPELLED - 1, accounts, 2, shorts, 2,
+                                            &method, &exercised, &draw, &positions) == 0 &&
+                                  method == 'P' && exercised == 4 && draw == 0 && positions == 2 &&
+                                  accounts[0] == 1 && accounts[1] == 12 && shorts[0] == 5 && shorts[1] == 3);
+    see("write no leading zeros",
+        dilbreth_write(method, exercised, draw, accounts, 2, shorts, 2, text, sizeof text, &written) == 0 &&
+            written == sizeof WRITTEN - 1 && memcmp(text, WRITTEN, written) == 0);
+    see("read refuses 13 for eleven digits",
+        dilbreth_read((const uint8_t *)ELEVEN, sizeof ELEVEN - 1, accounts, 2, shorts, 2, &method, &exercised, &draw,
+                      &positions) == 13);
+    see("respond with 5 to an account in two spellings",
+        dilbreth_respond((const uint8_t *)TWICE, sizeof TWICE - 1, text, sizeof text, &written) == 0 &&
+            written == 10 && memcmp(text, "refused\n5\n", 10) == 0);
+}
+
 static void refusals(void)
 {
     static const uint32_t shorts[5] = {5, 8, 2, 10, 11};
@@ -143,6 +168,7 @@ int main(void)
     for (i = 0; i < sizeof KNOWN / sizeof KNOWN[0]; i++)
         known(&KNOWN[i]);
     case_m();
+    leading_zeros();
     refusals();
     words();
     printf("C: %d wrong\n", wrong);

@@ -1,4 +1,4 @@
-{ The unit and the archive, from Pascal: case M through each call, series that need no draw, refusals. }
+{ The unit and the archive, from Pascal: case M through each call, series that need no draw, leading zeros, refusals. }
 program dilbreth_test;
 
 {$mode objfpc}
@@ -10,6 +10,9 @@ uses
 const
   M = 'method,exercised,draw'#10'L,13,4855'#10'account,short'#10'1,5'#10'2,8'#10'3,2'#10'4,10'#10'5,11'#10;
   M_ASSIGNED = 'account,assigned'#10'1,0'#10'2,0'#10'3,0'#10'4,8'#10'5,5'#10;
+  M_SPELLED = 'method,exercised,draw'#10'L,0013,0000004855'#10'account,short'#10
+    + '0001,5'#10'0002,08'#10'03,002'#10'4,10'#10'0000000005,11'#10;
+  ELEVEN = 'method,exercised,draw'#10'L,13,4855'#10'account,short'#10'00000000001,5'#10;
   AMOUNTS_OF_M: array[0..5] of LongWord = (0, 0, 0, 8, 5, 999);
 
 var
@@ -37,6 +40,15 @@ begin
   First := Copy(bytes, 1, count);
 end;
 
+{ Reads a text into the lists; answers 0 or the number of the refusal. }
+function ReadText(const text: string): LongWord;
+begin
+  FillDWord(accounts, 6, 999);
+  FillDWord(shorts, 6, 999);
+  ReadText := dilbreth_read(PByte(text), Length(text), @accounts[0], 6, @shorts[0], 6,
+    @method, @exercised, @draw, @positions);
+end;
+
 { Allocates the first positions of M without a draw; answers 0 or the number of the refusal. }
 function Undrawn(by: Byte; count: SizeUInt; s: LongWord): LongWord;
 begin
@@ -49,11 +61,8 @@ end;
 begin
   series := M;
   bytes := StringOfChar('x', 100);
-  FillDWord(accounts, 6, 999);
-  FillDWord(shorts, 6, 999);
   FillDWord(amounts, 6, 999);
-  See('read', (dilbreth_read(PByte(series), Length(series), @accounts[0], 6, @shorts[0], 6,
-    @method, @exercised, @draw, @positions) = 0)
+  See('read', (ReadText(series) = 0)
     and (method = DILBRETH_LOTTERY) and (exercised = 13) and (draw = 4855) and (positions = 5)
     and (accounts[4] = 5) and (shorts[4] = 11) and (accounts[5] = 999) and (shorts[5] = 999));
   See('allocate', (dilbreth_allocate(method, @accounts[0], 5, @shorts[0], 5, exercised, draw,
@@ -69,6 +78,13 @@ begin
     and (total = 5) and (further = 0) and (amounts[0] = 4) and (amounts[1] = 999));
   See('allocate refuses 10 for one position of W', (Undrawn(DILBRETH_WHEEL, 1, 4) = 10) and (amounts[0] = 999));
   See('write', (dilbreth_write(method, exercised, draw, @accounts[0], 5, @shorts[0], 5,
+    PByte(bytes), Length(bytes), @written) = 0)
+    and (First(written) = series) and (bytes[written + 1] = 'x'));
+  See('read refuses 13 for eleven digits', (ReadText(ELEVEN) = 13) and (accounts[0] = 999) and (shorts[0] = 999));
+  See('read leading zeros', (ReadText(M_SPELLED) = 0) and (exercised = 13) and (draw = 4855) and (positions = 5)
+    and (accounts[0] = 1) and (shorts[2] = 2) and (accounts[4] = 5) and (accounts[5] = 999));
+  bytes := StringOfChar('x', 100);
+  See('write no leading zeros', (dilbreth_write(method, exercised, draw, @accounts[0], 5, @shorts[0], 5,
     PByte(bytes), Length(bytes), @written) = 0)
     and (First(written) = series) and (bytes[written + 1] = 'x'));
   See('respond', (dilbreth_respond(PByte(series), Length(series), PByte(bytes), Length(bytes), @written) = 0)

@@ -1,4 +1,4 @@
--- Document 01's case M in full, and what is printed for refusals, proved of the definitions by computation.
+-- Document 01's case M in full, what is printed for refusals and for numbers with leading zeros, proved of the definitions by computation.
 use Prim.Native.String.{String}
 use mathlib.Core.Path.{_≡_, refl}
 use mathlib.Core.List.{List, [], _∷_, map}
@@ -43,6 +43,14 @@ cases =
     prints "method,exercised,draw\nL,13,0\naccount,short\n1,5\n2,8\n" "account,assigned\n1,5\n2,8\n" ∷
     prints "method,exercised,draw\nW,13,0\naccount,short\n1,5\n2,8\n" "account,assigned\n1,5\n2,8\n" ∷
     prints "method,exercised,draw\nL,4,0\naccount,short\n1,5\n" "account,assigned\n1,4\n" ∷
+    -- leading zeros: case M again; accounts that rise as numbers, and not as digits
+    prints "method,exercised,draw\nL,0013,0000004855\naccount,short\n0001,5\n0002,08\n003,2\n04,10\n5,011\n" "account,assigned\n1,0\n2,0\n3,0\n4,8\n5,5\n" ∷
+    prints "method,exercised,draw\nL,13,0\naccount,short\n9,5\n0010,8\n" "account,assigned\n9,5\n10,8\n" ∷
+    -- two spellings of one account; accounts that fall as numbers, and not as digits; eleven digits
+    prints "method,exercised,draw\nL,12,4855\naccount,short\n1,5\n01,8\n" "refused\n5\n" ∷
+    prints "method,exercised,draw\nW,12,1\naccount,short\n0000000007,5\n7,8\n" "refused\n5\n" ∷
+    prints "method,exercised,draw\nP,12,0\naccount,short\n0002,5\n1,8\n" "refused\n5\n" ∷
+    prints "method,exercised,draw\nL,12,4855\naccount,short\n00000000001,5\n2,8\n" "refused\n13\n" ∷
     []
 
 -- the line `unfolding` names every definition that printing computes with

@@ -3,3 +3,4 @@ pub mod Claims
 pub mod ReadingLaws
 pub mod PrintLaws
 pub mod RoomLaws
+pub mod SpellingLaws

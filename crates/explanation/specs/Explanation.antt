@@ -19,7 +19,7 @@ refusals =
     ascii "the draw is outside 1 to T (W) or 1 to 10,000 (L)\n" ∷
     ascii "the text has more than 32,768 bytes\n" ∷
     ascii "line 1 or line 3 is missing or not exact\n" ∷
-    ascii "line 2 or a position line is malformed\n" ∷
+    ascii "bad line 2 or position line (number: 1-10 digits)\n" ∷
     ascii "the method is not W, P or L\n" ∷
     ascii "there are more than 1,024 positions in a text\n" ∷ []
 

@@ -38,7 +38,7 @@ pub fn explain(number: u32, line: &mut [u8]) -> usize
         10 => put(b"the draw is outside 1 to T (W) or 1 to 10,000 (L)\n", line),
         11 => put(b"the text has more than 32,768 bytes\n", line),
         12 => put(b"line 1 or line 3 is missing or not exact\n", line),
-        13 => put(b"line 2 or a position line is malformed\n", line),
+        13 => put(b"bad line 2 or position line (number: 1-10 digits)\n", line),
         14 => put(b"the method is not W, P or L\n", line),
         15 => put(b"there are more than 1,024 positions in a text\n", line),
         _ => put(b"no refusal has this number\n", line),

@@ -1,11 +1,11 @@
--- Document 01's case M and its refusals, proved of the definitions by computation.
+-- Document 01's case M and its refusals, and document 02's leading zeros, proved of the definitions by computation.
 use Prim.Native.Nat.{ℕ, zero, suc}
 use Prim.Native.String.{String}
 use mathlib.Core.Path.{_≡_, refl}
 use mathlib.Core.List.{List, [], _∷_, _++_, map}
 use lib.ListN.{replicate}
 use Rattle.series.specs.Ascii.{ascii}
-use Rattle.series.specs.Results.{Result, refused, value, status}
+use Rattle.series.specs.Results.{Result, refused, value, _>>=_, status}
 use Rattle.series.specs.Series.{Series}
 use Rattle.series.specs.Sums.{listed}
 use Rattle.series.specs.declared.Method.{Method}
@@ -84,10 +84,11 @@ long r s n = record { number = r; text = s ++ replicate n 49 }
 
 pub texts : List TextCase
 texts =
-    -- read: no positions, the largest number, zero, 1,024 positions
+    -- read: no positions, the largest number, zero, leading zeros in every field, 1,024 positions
     lines 0 "" ∷
     lines 0 "4294967295,0\n" ∷
     terms 0 "P,0,4294967295\naccount,short\n0,0\n" ∷
+    terms 0 "P,01,00\naccount,short\n001,0002\n" ∷
     most 0 "" ∷
     -- 32,769 bytes, whatever they are; 32,768 bytes are judged by their lines
     long 11 [] 32769 ∷
@@ -118,12 +119,10 @@ texts =
     terms 14 "w,1,1\naccount,short\n" ∷
     terms 14 ",1,1\naccount,short\n" ∷
     terms 14 "WW,1,1\naccount,short\n" ∷
-    terms 14 "X,01,1\naccount,short\n" ∷
+    terms 14 "X,x1,1\naccount,short\n" ∷
     terms 14 "X,,\naccount\n" ∷
-    -- a number of line 2: empty, a leading zero, 00, one above the largest, a sign, a space, a carriage return
+    -- a number of line 2: empty, one above the largest, a sign, a space, a carriage return
     terms 13 "W,,1\naccount,short\n" ∷
-    terms 13 "W,01,1\naccount,short\n" ∷
-    terms 13 "W,1,00\naccount,short\n" ∷
     terms 13 "W,4294967296,1\naccount,short\n" ∷
     terms 13 "W,-1,1\naccount,short\n" ∷
     terms 13 "W, 1,1\naccount,short\n" ∷
@@ -136,9 +135,7 @@ texts =
     lines 13 "1,1\n2,2" ∷
     lines 13 ",\n" ∷
     lines 13 "1,\n" ∷
-    -- leading zeros, one above the largest, eleven digits, a carriage return, a letter after good lines
-    lines 13 "00,1\n" ∷
-    lines 13 "1,01\n" ∷
+    -- one above the largest, eleven digits, a carriage return, a letter after good lines
     lines 13 "4294967296,1\n" ∷
     lines 13 "1,42949672950\n" ∷
     lines 13 "1,1\r\n" ∷
@@ -152,6 +149,56 @@ texts =
 pub judged : map (λ r. status (readText (r .text))) texts ≡ map (λ r. r .number) texts
 unfolding reading repeated head texts
 judged = refl
+
+-- ---- leading zeros
+
+-- digits, and what they read as
+pub record Spelling : Type 0 where
+  pub digits : Text
+  pub number : Result ℕ
+
+abbrev reads : String → ℕ → Spelling
+reads s n = record { digits = ascii s; number = value n }
+
+abbrev malformed : String → Spelling
+malformed s = record { digits = ascii s; number = refused 13 }
+
+pub spellings : List Spelling
+spellings =
+    reads "0001" 1 ∷
+    reads "0000000000" 0 ∷
+    reads "0000000001" 1 ∷
+    malformed "00000000001" ∷
+    malformed "00000000000" ∷
+    reads "4294967295" 4294967295 ∷
+    malformed "04294967295" ∷
+    malformed "4294967296" ∷
+    malformed "9999999999" ∷ []
+
+-- a field of a text: the text with these digits in the field, and the series with this number there
+pub record FieldCase : Type 0 where
+  pub text : Text → Text
+  pub series : ℕ → Series
+
+-- a series of one position under W
+abbrev one : ℕ → ℕ → ℕ → ℕ → Series
+one exercised draw account short =
+    record { terms = record { method = Method.Wheel; exercised = record { 0 = exercised }; draw = draw }; accounts = account ∷ []; shorts = short ∷ [] }
+
+-- the account, the shorts, S and the draw
+pub fields : List FieldCase
+fields =
+    record { text = λ d. head ++ d ++ ascii ",2\n"; series = λ n. one 1 1 n 2 } ∷
+    record { text = λ d. head ++ ascii "7," ++ d ++ ascii "\n"; series = λ n. one 1 1 7 n } ∷
+    record { text = λ d. namesLine Heading.Terms ++ ascii "W," ++ d ++ ascii ",1\naccount,short\n7,2\n"; series = λ n. one n 1 7 2 } ∷
+    record { text = λ d. namesLine Heading.Terms ++ ascii "W,1," ++ d ++ ascii "\naccount,short\n7,2\n"; series = λ n. one 1 n 7 2 } ∷ []
+
+-- each spelling in each field: the series with its number there, or 13
+pub spellings-judged : map (λ f. map (λ c. readText (f .text (c .digits))) spellings) fields ≡ map (λ f. map (λ c. c .number >>= λ n. value (f .series n)) spellings) fields
+unfolding reading head spellings fields
+spellings-judged = refl
+
+-- ---- the names lines
 
 -- the headings that are known, a text, and what reading its names line gives
 pub record NamesRow : Type 0 where

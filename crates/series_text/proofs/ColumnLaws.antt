@@ -1,7 +1,6 @@
 -- Laws of the rows of columns, and of the columns of rows.
 use Prim.Native.Nat.{ℕ, zero, suc, _+_, _<_}
-use mathlib.Core.Path.{_≡_, refl, sym, ap, ap₂, _∙_}
-use mathlib.Core.Bool.{true}
+use mathlib.Core.Path.{_≡_, refl, ap, ap₂, _∙_}
 use mathlib.Core.List.{List, [], _∷_, _++_, map, map-append}
 use native.Mathlib.Omega.{arith}
 use native.Mathlib.Numerals.{add-one}
@@ -81,11 +80,12 @@ rows-longer n c cs (x ∷ row) l e =
     (ap₂ (λ rows r. rows ++ (r ∷ [])) (listed-cong (rowOf (longer (c ∷ cs) (x ∷ row))) (rowOf (c ∷ cs)) n (λ i lt. row-before n i (c ∷ cs) (x ∷ row) l e lt))
     (row-last n (c ∷ cs) (x ∷ row) l e))
 
-two : (row : List ℕ) → length row ≡ 2 → getD row 0 0 ∷ getD row 1 0 ∷ [] ≡ row
-two [] e = absurd (omega arith)
-two (a ∷ []) e = absurd (omega arith)
-two (a ∷ b ∷ []) e = refl
-two (a ∷ b ∷ c ∷ row) e = absurd (omega arith)
+-- a row of two numbers, by their columns
+pub two-numbers : (row : List ℕ) → length row ≡ 2 → getD row 0 0 ∷ getD row 1 0 ∷ [] ≡ row
+two-numbers [] e = absurd (omega arith)
+two-numbers (a ∷ []) e = absurd (omega arith)
+two-numbers (a ∷ b ∷ []) e = refl
+two-numbers (a ∷ b ∷ c ∷ row) e = absurd (omega arith)
 
 -- one row more of two lists that are written
 pub rows-set : (xs ys : List ℕ) (n : ℕ) (row : List ℕ) → n < length xs → n < length ys → length row ≡ 2
@@ -94,4 +94,4 @@ unfolding longer Long
 rows-set xs ys n row lx ly e =
     rw (add-one, take-suc-set xs n (getD row 0 0) lx, take-suc-set ys n (getD row 1 0) ly)
     (rows-longer n (take n xs) (take n ys ∷ []) (getD row 0 0 ∷ getD row 1 0 ∷ []) (length-take-le n xs (omega arith), (length-take-le n ys (omega arith), tt)) refl
-    ∙ ap (λ (r : List ℕ). rowsOf (take n xs ∷ take n ys ∷ []) ++ (r ∷ [])) (two row e))
+    ∙ ap (λ (r : List ℕ). rowsOf (take n xs ∷ take n ys ∷ []) ++ (r ∷ [])) (two-numbers row e))

@@ -62,6 +62,14 @@ pub digits-few : (n : ℕ) → length (decimal n) ≤ 10
 unfolding decimal
 digits-few n = few-in 10 n
 
+pub digits-some : (n : ℕ) → 1 ≤ length (decimal n)
+unfolding decimal decimalIn
+digits-some n = go (ltb n 10)
+  where
+    go : (t : Bool) → 1 ≤ length (cond t ((48 + n) ∷ []) (decimalIn 9 (n / 10) ++ ((48 + n % 10) ∷ [])))
+    go true = omega arith
+    go false = rw length-snoc (omega arith)
+
 -- ---- the digits from the last to the first
 
 -- the last k digits of n

@@ -1,19 +1,20 @@
 -- Laws of a field and of a line that are read byte by byte.
-use Prim.Native.Nat.{ℕ, suc, _+_, _-_, _*_, _≤_, _<_}
+use Prim.Native.Nat.{ℕ, suc, _+_, _-_, _*_, _^_, _≤_, _<_}
 use mathlib.Core.Path.{_≡_, refl, sym, ap, _∙_}
-use mathlib.Core.Bool.{Bool, true, false, not, _&&_, cond, and-false, and-assoc}
+use mathlib.Core.Bool.{Bool, true, false, _&&_, cond, false≢true, and-false, and-assoc}
 use mathlib.Core.List.{[], _∷_, _++_, append-assoc, append-nil}
 use native.Mathlib.Omega.{arith}
+use native.Mathlib.Nat.{pow-suc, pow-le-pow-right}
 use native.Mathlib.Numerals.{add-one}
-use borrow.Author.Tests.{lt-leb, le-leb, eq-eqb, ne-eqb}
-use lib.Dec.{eqb}
-use lib.ListN.{length, getD, take, drop, drop-of-length-le}
-use lib.Seq.{slice, slice-empty, slice-cons, take-suc, drop-cons, drop-append-le, length-take-le}
+use borrow.Author.Tests.{leb-true, lt-leb, le-leb, eq-eqb, ne-eqb}
+use lib.Dec.{eqb, leb}
+use lib.ListN.{length, getD, take, drop, length-append, drop-of-length-le}
+use lib.Seq.{slice, slice-empty, length-slice, take-suc, drop-cons, drop-append-le, length-take-le}
 use Rattle.series.specs.Results.{Result, refused, value, _>>=_}
 use Rattle.series_text.specs.Fields.{Text, Read, ends, field, past, fieldBy}
 use Rattle.series_text.specs.Names.{afterLine}
 use Rattle.series_text.specs.Parts.{numberBy}
-use Rattle.series_text.specs.Numbers.{digit, digits, spelled, amountFrom, amount, numeral, number, LARGEST}
+use Rattle.series_text.specs.Numbers.{LARGEST, MOST_DIGITS, digit, digits, spelled, amountFrom, amount, numeral, number}
 
 -- ---- a part of a text from one index to another
 
@@ -145,123 +146,133 @@ pub spoilt-byte : (f : Text) (b : ℕ) → digit b ≡ false → Spoilt (f ++ (b
 unfolding numeral digits
 spoilt-byte f b e g = simp (append-assoc, digits-append, e, and-false)
 
--- a number that is too large already spoils it: more digits only make it larger
-amount-grows : (n : ℕ) (g : Text) → n ≤ amountFrom n g
-unfolding amountFrom
-amount-grows n [] = omega arith
-amount-grows n (b ∷ g) = omega (arith, amount-grows (n * 10 + (b - 48)) g)
+-- more digits than a number has spoil it
+pub spoilt-long : (f : Text) → MOST_DIGITS < length f → Spoilt f
+unfolding numeral spelled
+spoilt-long f long g =
+    let over : MOST_DIGITS < length (f ++ g) = rw (length-append f g) (omega arith) in
+    simp (lt-leb (length (f ++ g)) MOST_DIGITS over, and-false)
 
 amount-append : (n : ℕ) (f g : Text) → amountFrom n (f ++ g) ≡ amountFrom (amountFrom n f) g
 unfolding amountFrom
 amount-append n [] g = refl
 amount-append n (b ∷ f) g = amount-append (n * 10 + (b - 48)) f g
 
-pub spoilt-large : (f : Text) → LARGEST < amount f → Spoilt f
-unfolding numeral amount
-spoilt-large f large g =
-    let over : LARGEST < amountFrom 0 (f ++ g) = rw (amount-append 0 f g) (omega (arith, amount-grows (amountFrom 0 f) g)) in
-    simp (lt-leb _ _ over, and-false)
-
 -- the number of a field grows by a digit
 pub amount-more : (f : Text) (b : ℕ) → amount (f ++ (b ∷ [])) ≡ amount f * 10 + (b - 48)
 unfolding amount amountFrom
 amount-more f b = amount-append 0 f (b ∷ [])
 
--- how the part from index a to index b spells a number: no byte, one byte, more bytes
-pub spelled-none : (a b : ℕ) (s : Text) → a ≡ b → false ≡ spelled (slice a b s)
-unfolding spelled
-spelled-none a b s e = rw (e, slice-empty b s)
-
-pub spelled-one : (a b : ℕ) (s : Text) → suc a ≡ b → b ≤ length s → true ≡ spelled (slice a b s)
-unfolding spelled
-spelled-one a b s e le =
-    let lt : a < b = omega arith in
-    rw (slice-cons a b s 0 lt le, e, slice-empty b s)
-
-pub spelled-more : (a b : ℕ) (s : Text) → suc a < b → b ≤ length s → not (eqb (getD s a 0) 48) ≡ spelled (slice a b s)
-unfolding spelled
-spelled-more a b s lt le =
-    let lt₁ : a < b = omega arith in
-    rw (slice-cons a b s 0 lt₁ le, slice-cons (suc a) b s 0 lt le)
-
--- what a loop over the digits of a number keeps: the bytes from index at to index i are digits, and n is their number
+-- what a loop over the digits of a number keeps: the bytes from index at to index i are digits, at most ten, and n is their number
 pub record NumberTo (c : ℕ) (s : Text) (at i n : ℕ) : Type 0 where
   pub within : at ≤ i
+  pub few : i - at ≤ MOST_DIGITS
   pub read : ReadTo c s at i
   pub only : digits (slice at i s) ≡ true
   pub amounts : amount (slice at i s) ≡ n
-  pub fits : n ≤ LARGEST
+  pub small : n < 10 ^ (i - at)
 
 pub number-start : (c : ℕ) (s : Text) (at : ℕ) → NumberTo c s at at 0
 unfolding digits amount amountFrom
 number-start c s at =
-    record { within = omega arith; read = read-start c s at; only = rw slice-empty; amounts = rw slice-empty; fits = omega arith }
+    let none : at - at ≡ 0 = omega arith in
+    record { within = omega arith; few = omega arith; read = read-start c s at; only = rw slice-empty; amounts = rw slice-empty; small = rw none (omega arith) }
+
+-- both parts of a test that holds
+pub and-true-parts : (a b : Bool) → (a && b) ≡ true → (a ≡ true) × (b ≡ true)
+and-true-parts true b e = (refl, e)
+and-true-parts false b e = absurd (false≢true e)
+
+-- a digit is a byte from 48 to 57
+pub digit-bounds : (b : ℕ) → digit b ≡ true → (48 ≤ b) × (b ≤ 57)
+unfolding digit
+digit-bounds b e =
+    let both = and-true-parts (leb 48 b) (leb b 57) e in
+    (leb-true 48 b (both .0), leb-true b 57 (both .1))
 
 -- no digit ends a field
-pub ends-digit : (b : ℕ) → 48 ≤ b → ends b ≡ false
+pub ends-digit : (b : ℕ) → digit b ≡ true → ends b ≡ false
 unfolding ends
-ends-digit b le = rw (ends, ne-eqb b 44 (omega arith), ne-eqb b 10 (omega arith))
+ends-digit b e =
+    let low : 48 ≤ b = digit-bounds b e .0 in
+    rw (ends, ne-eqb b 44 (omega arith), ne-eqb b 10 (omega arith))
 
 module _ (c : ℕ) (s : Text) (at i n : ℕ) (so : NumberTo c s at i n) where
+  -- ten digits are below 10,000,000,000
+  pub number-small : n < 10000000000
+  number-small = let most : 10 ^ (i - at) ≤ 10 ^ 10 = pow-le-pow-right {n = 10} (omega arith) (so .few) in omega (arith, so .small)
+
+  -- the field goes on with a digit
+  digit-read : i < length s → digit (getD s i 0) ≡ true → ReadTo c s at (i + 1)
+  digit-read lt d = read-more c s at i (so .within) lt (ends-digit (getD s i 0) d) (so .read)
+
   -- another digit
-  pub number-more : i < length s → 48 ≤ getD s i 0 → getD s i 0 ≤ 57 → n * 10 + (getD s i 0 - 48) ≤ LARGEST → NumberTo c s at (i + 1) (n * 10 + (getD s i 0 - 48))
-  unfolding digits digit
-  number-more lt low high le =
+  pub number-more : i < length s → digit (getD s i 0) ≡ true → i - at < MOST_DIGITS → NumberTo c s at (i + 1) (n * 10 + (getD s i 0 - 48))
+  unfolding digits
+  number-more lt d few =
+      let high : getD s i 0 ≤ 57 = digit-bounds (getD s i 0) d .1 in
+      let one : i + 1 - at ≡ suc (i - at) = omega (arith, so .within) in
+      let tens : 10 ^ suc (i - at) ≡ 10 ^ (i - at) * 10 = pow-suc 10 (i - at) in
       record {
         within = omega (arith, so .within);
-        read = read-more c s at i (so .within) lt (ends-digit (getD s i 0) low) (so .read);
-        only = rw (slice-more at i s (so .within) lt, digits-append, so .only, le-leb 48 (getD s i 0) low, le-leb (getD s i 0) 57 high);
+        few = omega arith;
+        read = digit-read lt d;
+        only = rw (slice-more at i s (so .within) lt, digits-append, so .only, d);
         amounts = rw (slice-more at i s (so .within) lt, amount-more, so .amounts);
-        fits = le;
+        small = rw one (omega (arith, so .small));
       }
 
-  -- another digit, and the number is too large
-  pub number-large : i < length s → 48 ≤ getD s i 0 → LARGEST < n * 10 + (getD s i 0 - 48) → numberBy c (drop at s) ≡ refused 13
-  number-large lt low over =
-      let e : amount (slice at (i + 1) s) ≡ n * 10 + (getD s i 0 - 48) = rw (slice-more at i s (so .within) lt, amount-more, so .amounts) in
-      read-spoilt c s at (i + 1) (spoilt-large (slice at (i + 1) s) (omega arith))
-      (read-more c s at i (so .within) lt (ends-digit (getD s i 0) low) (so .read))
+  -- an eleventh digit
+  pub number-long : i < length s → digit (getD s i 0) ≡ true → MOST_DIGITS ≤ i - at → numberBy c (drop at s) ≡ refused 13
+  number-long lt d many =
+      let long : MOST_DIGITS < length (slice at (i + 1) s) = omega (arith, length-slice at (i + 1) s (omega arith), so .within) in
+      read-spoilt c s at (i + 1) (spoilt-long (slice at (i + 1) s) long) (digit-read lt d)
 
-  -- a byte that is no digit and ends no field
-  number-spoilt : i < length s → digit (getD s i 0) ≡ false → ends (getD s i 0) ≡ false → numberBy c (drop at s) ≡ refused 13
-  number-spoilt lt nd e =
-      let bad : Spoilt (slice at (i + 1) s) = rw (slice-more at i s (so .within) lt) (spoilt-byte (slice at i s) (getD s i 0) nd) in
-      read-spoilt c s at (i + 1) bad (read-more c s at i (so .within) lt e (so .read))
-
-  -- a byte above the digits
-  pub number-high : i < length s → 57 < getD s i 0 → numberBy c (drop at s) ≡ refused 13
-  unfolding digit
-  number-high lt high =
-      let nd : digit (getD s i 0) ≡ false = simp (lt-leb (getD s i 0) 57 high, and-false) in
-      number-spoilt lt nd (ends-digit (getD s i 0) (omega arith))
-
-  -- a byte below the digits, which does not end the field as it should
-  pub number-low : i < length s → getD s i 0 < 48 → (getD s i 0 ≡ c → ⊥) → numberBy c (drop at s) ≡ refused 13
-  unfolding numbered digit
-  number-low lt low ne = go (ends (getD s i 0)) refl
+  -- a byte that is no digit, and does not end the field as it should
+  pub number-other : i < length s → digit (getD s i 0) ≡ false → (getD s i 0 ≡ c → ⊥) → numberBy c (drop at s) ≡ refused 13
+  unfolding numbered
+  number-other lt nd ne = go (ends (getD s i 0)) refl
     where
+      bad : Spoilt (slice at (i + 1) s)
+      bad = rw (slice-more at i s (so .within) lt) (spoilt-byte (slice at i s) (getD s i 0) nd)
+
       go : (t : Bool) → ends (getD s i 0) ≡ t → numberBy c (drop at s) ≡ refused 13
       go true e = numberBy-numbered c (drop at s) ∙ ap numbered (read-other c s at i lt e (ne-eqb (getD s i 0) c ne) (so .read))
-      go false e = number-spoilt lt (rw (lt-leb 48 (getD s i 0) low)) e
-
-  -- the byte that ends the field
-  pub number-end : i < length s → getD s i 0 ≡ c → ends c ≡ true → true ≡ spelled (slice at i s) → numberBy c (drop at s) ≡ value (record { found = n; rest = drop (i + 1) s })
-  unfolding numbered number numeral
-  number-end lt e end good =
-      numberBy-numbered c (drop at s) ∙ ap numbered (read-end c s at i lt e end (so .read))
-      ∙ rw (so .only, ← good, so .amounts, le-leb n LARGEST (so .fits))
-
-  -- it is ended, and not spelled as a number
-  pub number-misspelt : i < length s → getD s i 0 ≡ c → ends c ≡ true → false ≡ spelled (slice at i s) → numberBy c (drop at s) ≡ refused 13
-  unfolding numbered number numeral
-  number-misspelt lt e end bad =
-      numberBy-numbered c (drop at s) ∙ ap numbered (read-end c s at i lt e end (so .read))
-      ∙ rw (so .only, ← bad)
+      go false e = read-spoilt c s at (i + 1) bad (read-more c s at i (so .within) lt e (so .read))
 
   -- the end of the text
   pub number-none : length s ≤ i → numberBy c (drop at s) ≡ refused 13
   unfolding numbered
   number-none le = numberBy-numbered c (drop at s) ∙ ap numbered (read-none c s at i le (so .read))
+
+  -- the byte that ends the field
+  module _ (lt : i < length s) (e : getD s i 0 ≡ c) (end : ends c ≡ true) where
+    -- what stands before it is the field
+    ended : numberBy c (drop at s) ≡ numbered (value (record { found = slice at i s; rest = drop (i + 1) s }))
+    ended = numberBy-numbered c (drop at s) ∙ ap numbered (read-end c s at i lt e end (so .read))
+
+    long : length (slice at i s) ≡ i - at
+    long = length-slice at i s (omega arith)
+
+    pub number-end : (i ≡ at → ⊥) → n ≤ LARGEST → numberBy c (drop at s) ≡ value (record { found = n; rest = drop (i + 1) s })
+    unfolding numbered number numeral spelled
+    number-end some fits =
+        let one : 1 ≤ i - at = omega (arith, so .within) in
+        ended ∙ rw (so .only, long, le-leb 1 (i - at) one, le-leb (i - at) MOST_DIGITS (so .few), so .amounts, le-leb n LARGEST fits)
+
+    -- no digit stands before it
+    pub number-empty : i ≡ at → numberBy c (drop at s) ≡ refused 13
+    unfolding numbered number numeral spelled
+    number-empty none =
+        let zero′ : length (slice at i s) ≡ 0 = long ∙ omega arith in
+        ended ∙ rw (so .only, zero′)
+
+    -- the number does not fit
+    pub number-large : LARGEST < n → numberBy c (drop at s) ≡ refused 13
+    unfolding numbered number numeral
+    number-large over =
+        let bad : numeral (slice at i s) ≡ false = simp (so .amounts, lt-leb n LARGEST over, and-false) in
+        ended ∙ rw bad
 
 -- ---- a fixed line
 

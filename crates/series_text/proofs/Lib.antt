@@ -1,6 +1,6 @@
--- The text of a series: what is proved of the definitions (RoundTrip, OneText, Claims, RowLaws), and the laws that the functions' proofs cite.
+-- The text of a series: what is proved of the definitions (RoundTrip, ShortestText, SpellingLaws, Claims), and the laws that the functions' proofs cite.
 pub mod RoundTrip
-pub mod OneText
+pub mod ShortestText
 pub mod Claims
 pub mod RowLaws
 pub mod ColumnLaws

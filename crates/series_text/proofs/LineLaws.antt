@@ -6,9 +6,6 @@ use mathlib.Core.List.{List, [], _∷_, _++_, append-assoc, append-nil}
 use native.Mathlib.Omega.{arith}
 use native.Mathlib.Nat.{sub-zero}
 use native.Mathlib.Numerals.{add-one}
-use denote.Enum.Declared.{tagOf}
-use types.Run.{OneOf}
-use mathlib.Core.Logic.{⊎-elim}
 use borrow.Author.Tests.{lt-ltb, le-ltb}
 use lib.Dec.{eqb}
 use lib.ListN.{length, getD, take, drop, set, drop-of-length-le}
@@ -17,16 +14,14 @@ use Rattle.series.specs.Results.{Result, refused, value, _>>=_}
 use Rattle.series.specs.declared.Method.{Method}
 use Rattle.series.specs.declared.Terms.{Terms}
 use Rattle.series.proofs.ResultLaws.{never}
-use Rattle.series_text.specs.Numbers.{numeral, number}
+use Rattle.series_text.specs.Numbers.{number}
 use Rattle.series_text.specs.Fields.{Text, COMMA, NEWLINE, Read, ends, field, past, fieldBy, endBefore, readFields}
 use Rattle.series_text.specs.Rows.{numbers, readRow, readRows}
 use Rattle.series_text.specs.Names.{line1, line3, namesLine, afterLine, headingOr, readNames}
 use Rattle.series_text.specs.Letters.{methodBy, methodOf}
 use Rattle.series_text.specs.Text.{MOST_BYTES, readTerms, readHead}
-use Rattle.series_text.specs.Parts.{numberBy, foundMeans, foundWithin, fieldsThenNumbers, fieldsMean, foundFields}
-use Rattle.series_text.specs.declared.row.Fields.{Fields}
-use Rattle.series_text.proofs.RowLaws.{end-ends, rows-none}
-use Rattle.series_text.proofs.row.Fields.{the-type}
+use Rattle.series_text.specs.Parts.{numberBy, foundMeans, foundWithin, foundFields}
+use Rattle.series_text.proofs.RowLaws.{rows-none}
 use Rattle.series_text.specs.declared.field.Found.{Found}
 use Rattle.series_text.specs.declared.names.Heading.{Heading}
 use Rattle.series_text.proofs.FieldLaws.{drop-more, numbered, numberBy-numbered}
@@ -130,101 +125,82 @@ abbrev before : Text → Result (List ℕ) → Result (Read (List ℕ))
 before u q = q >>= λ ns. value (record { found = ns; rest = u })
 
 -- the fields of a line as numbers
-valued : Result (Read (List Text)) → Result (Result (Read (List ℕ)))
-valued r = r >>= λ fs. value (before (fs .rest) (numbers (fs .found)))
+rowBy : Result (Read (List Text)) → Result (Read (List ℕ))
+rowBy r = r >>= λ fs. before (fs .rest) (numbers (fs .found))
 
-valued-line : (k : ℕ) (s : Text) → fieldsThenNumbers (suc k) s ≡ valued (lineBy k (fieldBy (endBefore k) s))
-unfolding fieldsThenNumbers readFields valued lineBy
-valued-line k s = refl
+row-by : (k : ℕ) (s : Text) → readRow (suc k) s ≡ rowBy (lineBy k (fieldBy (endBefore k) s))
+unfolding readRow readFields rowBy lineBy
+row-by k s = refl
 
 -- the numbers ns in front of those that are read
-unfoldable pub inFront : List ℕ → Result (Result (Read (List ℕ))) → Result (Result (Read (List ℕ)))
+unfoldable pub inFront : List ℕ → Result (Read (List ℕ)) → Result (Read (List ℕ))
 inFront ns (refused n) = refused n
-inFront ns (value (refused n)) = value (refused n)
-inFront ns (value (value x)) = value (value (record { found = ns ++ x .found; rest = x .rest }))
+inFront ns (value x) = value (record { found = ns ++ x .found; rest = x .rest })
 
-inFront-nil : (r : Result (Result (Read (List ℕ)))) → r ≡ inFront [] r
+inFront-nil : (r : Result (Read (List ℕ))) → r ≡ inFront [] r
 unfolding inFront
 inFront-nil (refused n) = refl
-inFront-nil (value (refused n)) = refl
-inFront-nil (value (value x)) = refl
+inFront-nil (value x) = refl
 
-inFront-inFront : (ms ns : List ℕ) (r : Result (Result (Read (List ℕ)))) → inFront ms (inFront ns r) ≡ inFront (ms ++ ns) r
+inFront-inFront : (ms ns : List ℕ) (r : Result (Read (List ℕ))) → inFront ms (inFront ns r) ≡ inFront (ms ++ ns) r
 unfolding inFront
 inFront-inFront ms ns (refused n) = refl
-inFront-inFront ms ns (value (refused n)) = refl
-inFront-inFront ms ns (value (value x)) = rw append-assoc
+inFront-inFront ms ns (value x) = rw append-assoc
 
 -- a first number, and then the others
-numbers-more : (k : ℕ) (s : Text) (x : Read ℕ) → value x ≡ numberBy (endBefore k) s → fieldsThenNumbers (suc k) s ≡ inFront (x .found ∷ []) (fieldsThenNumbers k (x .rest))
-unfolding fieldsThenNumbers valued lineBy inFront numbers numbered
-numbers-more k s x e = valued-line k s ∙ go (fieldBy (endBefore k) s) (e ∙ numberBy-numbered (endBefore k) s)
+numbers-more : (k : ℕ) (s : Text) (x : Read ℕ) → value x ≡ numberBy (endBefore k) s → readRow (suc k) s ≡ inFront (x .found ∷ []) (readRow k (x .rest))
+unfolding readRow rowBy lineBy inFront numbers numbered
+numbers-more k s x e = row-by k s ∙ go (fieldBy (endBefore k) s) (e ∙ numberBy-numbered (endBefore k) s)
   where
-    others : (n : ℕ) (q : Result (List ℕ)) (u : Text)
-        → value (before u (q >>= λ ns. value (n ∷ ns))) ≡ inFront (n ∷ []) (value (before u q))
+    others : (n : ℕ) (q : Result (List ℕ)) (u : Text) → before u (q >>= λ ns. value (n ∷ ns)) ≡ inFront (n ∷ []) (before u q)
     others n (refused m) u = refl
     others n (value ns) u = refl
 
     rest : (f : Text) (n : ℕ) (q : Result (Read (List Text))) → number f ≡ value n
-        → valued (q >>= λ fs. value (record { found = f ∷ fs .found; rest = fs .rest })) ≡ inFront (n ∷ []) (valued q)
+        → rowBy (q >>= λ fs. value (record { found = f ∷ fs .found; rest = fs .rest })) ≡ inFront (n ∷ []) (rowBy q)
     rest f n (refused m) i = refl
     rest f n (value fs) i = rw i (others n (numbers (fs .found)) (fs .rest))
 
-    picked : (f : Read Text) (q : Result ℕ) → number (f .found) ≡ q → value x ≡ (q >>= λ n. value (record { found = n; rest = f .rest })) → valued (lineBy k (value f)) ≡ inFront (x .found ∷ []) (valued (readFields k (x .rest)))
+    picked : (f : Read Text) (q : Result ℕ) → number (f .found) ≡ q → value x ≡ (q >>= λ n. value (record { found = n; rest = f .rest })) → rowBy (lineBy k (value f)) ≡ inFront (x .found ∷ []) (rowBy (readFields k (x .rest)))
     picked f (refused m) i e = absurd (never m x (sym e))
     picked f (value n) i e =
         let is : x ≡ record { found = n; rest = f .rest } = cc in
         rw is (rest (f .found) n (readFields k (f .rest)) i)
 
-    go : (r : Result (Read Text)) → value x ≡ numbered r → valued (lineBy k r) ≡ inFront (x .found ∷ []) (valued (readFields k (x .rest)))
+    go : (r : Result (Read Text)) → value x ≡ numbered r → rowBy (lineBy k r) ≡ inFront (x .found ∷ []) (rowBy (readFields k (x .rest)))
     go (refused m) e = absurd (never m x (sym e))
     go (value f) e = picked f (number (f .found)) refl e
 
--- the first field is no number, in a line that has its fields
-numbers-none : (k : ℕ) (s : Text) → refused 13 ≡ numberBy (endBefore k) s → true ≡ foundFields (readFields (suc k) s) → value (refused 13) ≡ fieldsThenNumbers (suc k) s
-unfolding readFields valued lineBy numbers numbered
-numbers-none k s e found = go (fieldBy (endBefore k) s) (e ∙ numberBy-numbered (endBefore k) s) found ∙ sym (valued-line k s)
+-- the first field is no number
+numbers-none : (k : ℕ) (s : Text) → refused 13 ≡ numberBy (endBefore k) s → refused 13 ≡ readRow (suc k) s
+unfolding Only rowBy lineBy numbers numbered
+numbers-none k s e = go (fieldBy (endBefore k) s) (e ∙ numberBy-numbered (endBefore k) s) ∙ sym (row-by k s)
   where
     picked : (fs : List Text) (u : Text) (q : Result ℕ) (v : Text) → _≡_ {A = Result (Read ℕ)} (refused 13) (q >>= λ n. value (record { found = n; rest = v }))
-        → value (refused 13) ≡ value (before u (q >>= λ n. numbers fs >>= λ ns. value (n ∷ ns)))
+        → refused 13 ≡ before u (q >>= λ n. numbers fs >>= λ ns. value (n ∷ ns))
     picked fs u (refused m) v e = cc
     picked fs u (value n) v e = absurd (never 13 _ e)
 
-    rest : (f : Read Text) (q : Result (Read (List Text))) → refused 13 ≡ numbered (value f) → true ≡ foundFields {A = Read (List Text)} (q >>= λ fs. value (record { found = f .found ∷ fs .found; rest = fs .rest }))
-        → value (refused 13) ≡ valued (q >>= λ fs. value (record { found = f .found ∷ fs .found; rest = fs .rest }))
-    rest f (refused m) e found = absurd (false≢true (sym found))
-    rest f (value fs) e found = picked (fs .found) (fs .rest) (number (f .found)) (f .rest) e
+    rest : (f : Read Text) (q : Result (Read (List Text))) → refused 13 ≡ numbered (value f) → Only 13 q → refused 13 ≡ rowBy (q >>= λ fs. value (record { found = f .found ∷ fs .found; rest = fs .rest }))
+    rest f (refused m) e only = rw only
+    rest f (value fs) e only = picked (fs .found) (fs .rest) (number (f .found)) (f .rest) e
 
-    go : (r : Result (Read Text)) → refused 13 ≡ numbered r → true ≡ foundFields (lineBy k r) → value (refused 13) ≡ valued (lineBy k r)
-    go (refused m) e found = absurd (false≢true (sym found))
-    go (value f) e found = rest f (readFields k (f .rest)) e found
-
--- the fields are not there
-numbers-missing : (k : ℕ) (s : Text) → false ≡ foundFields (readFields k s) → refused 13 ≡ fieldsThenNumbers k s
-unfolding fieldsThenNumbers valued Only
-numbers-missing k s found = go (readFields k s) (fields-only k s) found
-  where
-    go : (r : Result (Read (List Text))) → Only 13 r → false ≡ foundFields r → refused 13 ≡ valued r
-    go (refused m) h found = rw h
-    go (value fs) h found = absurd (false≢true found)
+    go : (r : Result (Read Text)) → refused 13 ≡ numbered r → refused 13 ≡ rowBy (lineBy k r)
+    go (refused m) e = cc
+    go (value f) e = rest f (readFields k (f .rest)) e (fields-only k (f .rest))
 
 -- what the loop over the numbers of a row keeps: i of them stand first in the row, and those that are left are still to be read from index next on
 pub record RowTo (k : ℕ) (s : Text) (at : ℕ) (row : List ℕ) (next i left : ℕ) : Type 0 where
-  pub reads : fieldsThenNumbers k (drop at s) ≡ inFront (take i row) (fieldsThenNumbers left (drop next s))
+  pub reads : readRow k (drop at s) ≡ inFront (take i row) (readRow left (drop next s))
 
 pub row-start : {k : ℕ} {s : Text} {at : ℕ} {row : List ℕ} {left : ℕ} → left ≡ k → RowTo k s at row at 0 left
-row-start {k} {s} {at} e = record { reads = rw e (inFront-nil (fieldsThenNumbers k (drop at s))) }
+row-start {k} {s} {at} e = record { reads = rw e (inFront-nil (readRow k (drop at s))) }
 
 module _ {k : ℕ} {s : Text} {at : ℕ} {row : List ℕ} {next i left : ℕ} (so : RowTo k s at row next i left) where
   -- the row is read
-  pub row-end : left ≡ 0 → length row ≤ i → value (value (record { found = row; rest = drop next s })) ≡ fieldsThenNumbers k (drop at s)
-  unfolding fieldsThenNumbers readFields numbers inFront
+  pub row-end : left ≡ 0 → length row ≤ i → value (record { found = row; rest = drop next s }) ≡ readRow k (drop at s)
+  unfolding readRow readFields numbers inFront
   row-end e le = sym (so .reads ∙ rw (e, append-nil, take-all i row le))
-
-  -- the fields are not there
-  pub row-missing : false ≡ foundFields (readFields left (drop next s)) → refused 13 ≡ fieldsThenNumbers k (drop at s)
-  unfolding inFront
-  row-missing found = sym (so .reads ∙ rw (← numbers-missing left (drop next s) found))
 
   module _ {j : ℕ} (e : left ≡ suc j) where
     -- one more number
@@ -235,15 +211,13 @@ module _ {k : ℕ} {s : Text} {at : ℕ} {row : List ℕ} {next i left : ℕ} (s
           reads =
               so .reads
               ∙ rw (e, split, numbers-more j (drop next s) (record { found = n; rest = drop after s }) h)
-              (inFront-inFront (take i row) (n ∷ []) (fieldsThenNumbers j (drop after s)));
+              (inFront-inFront (take i row) (n ∷ []) (readRow j (drop after s)));
         }
 
-    -- the fields are there, and one of them is no number
-    pub row-malformed : refused 13 ≡ numberBy (endBefore j) (drop next s) → true ≡ foundFields (readFields left (drop next s)) → value (refused 13) ≡ fieldsThenNumbers k (drop at s)
+    -- a field that is no number
+    pub row-malformed : refused 13 ≡ numberBy (endBefore j) (drop next s) → refused 13 ≡ readRow k (drop at s)
     unfolding inFront
-    row-malformed h found =
-        let found′ : true ≡ foundFields (readFields (suc j) (drop next s)) = rw e at found in
-        sym (so .reads ∙ rw (e, ← numbers-none j (drop next s) h found′))
+    row-malformed h = sym (so .reads ∙ rw (e, ← numbers-none j (drop next s) h))
 
 -- ---- the method
 
@@ -267,59 +241,73 @@ method-one a b s e le =
 abbrev pub termsOf : Method → List ℕ → Terms
 termsOf how ns = record { method = how; exercised = record { 0 = getD ns 0 0 }; draw = getD ns 1 0 }
 
--- what line 2 comes to, from what its fields and its method are
-termsBy : Result (Result (Read (List ℕ))) → Result Method → Result (Read Terms)
-termsBy r m = r >>= λ q. m >>= λ how. q >>= λ x. value (record { found = termsOf how (x .found); rest = x .rest })
-
-terms-by : (s : Text) (m : Read Text) → value m ≡ fieldBy COMMA s → termsBy (fieldsThenNumbers 2 (m .rest)) (methodOf (m .found)) ≡ readTerms s
-unfolding readTerms termsBy fieldsThenNumbers valued
-terms-by s m h = rw (← h) (go (readFields 2 (m .rest)) (methodOf (m .found)))
-  where
-    last : (how : Method) (u : Text) (q : Result (List ℕ))
-        → _≡_ {A = Result (Read Terms)} (before u q >>= λ x. value (record { found = termsOf how (x .found); rest = x .rest })) (q >>= λ ns. value (record { found = termsOf how ns; rest = u }))
-    last how u (refused n) = refl
-    last how u (value ns) = refl
-
-    go : (r : Result (Read (List Text))) (w : Result Method)
-        → termsBy (valued r) w ≡ (r >>= λ fs. w >>= λ how. numbers (fs .found) >>= λ ns. value (record { found = termsOf how ns; rest = fs .rest }))
-    go (refused n) w = refl
-    go (value fs) (refused n) = refl
-    go (value fs) (value how) = last how (fs .rest) (numbers (fs .found))
-
 -- no comma ends the first field
 pub terms-first : (s : Text) → refused 13 ≡ fieldBy COMMA s → refused 13 ≡ readTerms s
 unfolding readTerms
 terms-first s h = rw (← h)
 
+-- what line 2 comes to, from its fields after the first and its method
+termsBy : Result (Read (List Text)) → Result Method → Result (Read Terms)
+termsBy r m = r >>= λ fs. m >>= λ how. numbers (fs .found) >>= λ ns. value (record { found = termsOf how ns; rest = fs .rest })
+
+-- a row that is read has its fields
+pub row-found : (k : ℕ) (s : Text) {x : Read (List ℕ)} → value x ≡ readRow k s → true ≡ foundFields (readFields k s)
+unfolding readRow
+row-found k s {x} h = go (readFields k s) h
+  where
+    go : (r : Result (Read (List Text))) → value x ≡ (r >>= λ fs. before (fs .rest) (numbers (fs .found))) → true ≡ foundFields r
+    go (refused n) h = absurd (never n x (sym h))
+    go (value fs) h = refl
+
 module _ (s : Text) {m : Read Text} (hm : value m ≡ fieldBy COMMA s) where
-  -- r is what the fields after it are, and w what the method is
-  terms-read : {r : Result (Result (Read (List ℕ)))} {w : Result Method} → r ≡ fieldsThenNumbers 2 (m .rest) → w ≡ methodOf (m .found) → termsBy r w ≡ readTerms s
-  terms-read hr hw = rw (hr, hw) (terms-by s m hm)
+  terms-by : termsBy (readFields 2 (m .rest)) (methodOf (m .found)) ≡ readTerms s
+  unfolding readTerms termsBy
+  terms-by = rw (← hm)
 
   -- the fields after it are not there
-  pub terms-missing : refused 13 ≡ fieldsThenNumbers 2 (m .rest) → refused 13 ≡ readTerms s
-  unfolding termsBy
-  terms-missing h = terms-read h refl
+  pub terms-missing : false ≡ foundFields (readFields 2 (m .rest)) → refused 13 ≡ readTerms s
+  unfolding termsBy Only
+  terms-missing found = go (readFields 2 (m .rest)) (fields-only 2 (m .rest)) found ∙ terms-by
+    where
+      go : (r : Result (Read (List Text))) → Only 13 r → false ≡ foundFields r → refused 13 ≡ termsBy r (methodOf (m .found))
+      go (refused n) h found = rw h
+      go (value fs) h found = absurd (false≢true found)
 
   -- they are there, and the method is unknown
-  pub terms-unknown : (t : Text) (row : List ℕ) (r : Fields) → OneOf (0 ∷ 1 ∷ []) (tagOf the-type r) → fieldsMean t row r ≡ fieldsThenNumbers 2 (m .rest) → refused 14 ≡ methodOf (m .found) → refused 14 ≡ readTerms s
+  pub terms-unknown : true ≡ foundFields (readFields 2 (m .rest)) → refused 14 ≡ methodOf (m .found) → refused 14 ≡ readTerms s
   unfolding termsBy
-  terms-unknown t row (Fields.Numbers next) k h hw = terms-read h hw
-  terms-unknown t row Fields.Malformed k h hw = terms-read h hw
-  terms-unknown t row Fields.Missing k h hw = absurd (⊎-elim (λ z. omega arith) (λ z. omega arith) k)
+  terms-unknown found hw = go (readFields 2 (m .rest)) found ∙ ap (termsBy (readFields 2 (m .rest))) hw ∙ terms-by
+    where
+      go : (r : Result (Read (List Text))) → true ≡ foundFields r → refused 14 ≡ termsBy r (refused 14)
+      go (refused n) found = absurd (false≢true (sym found))
+      go (value fs) found = refl
 
   module _ {how : Method} (hw : value how ≡ methodOf (m .found)) where
-    -- no two numbers
-    pub terms-malformed : (t : Text) (row : List ℕ) (r : Fields) → OneOf (1 ∷ 2 ∷ []) (tagOf the-type r) → fieldsMean t row r ≡ fieldsThenNumbers 2 (m .rest) → refused 13 ≡ readTerms s
-    unfolding termsBy
-    terms-malformed t row (Fields.Numbers next) k h = absurd (⊎-elim (λ z. omega arith) (λ z. omega arith) k)
-    terms-malformed t row Fields.Malformed k h = terms-read h hw
-    terms-malformed t row Fields.Missing k h = terms-read h hw
+    -- it is known, and the fields are no numbers
+    pub terms-malformed : true ≡ foundFields (readFields 2 (m .rest)) → refused 13 ≡ readRow 2 (m .rest) → refused 13 ≡ readTerms s
+    unfolding readRow termsBy
+    terms-malformed found h = go (readFields 2 (m .rest)) found h ∙ ap (termsBy (readFields 2 (m .rest))) hw ∙ terms-by
+      where
+        last : (u : Text) (q : Result (List ℕ)) → refused 13 ≡ before u q → _≡_ {A = Result (Read Terms)} (refused 13) (q >>= λ ns. value (record { found = termsOf how ns; rest = u }))
+        last u (refused n) h = cc
+        last u (value ns) h = absurd (never 13 _ h)
+
+        go : (r : Result (Read (List Text))) → true ≡ foundFields r → refused 13 ≡ (r >>= λ fs. before (fs .rest) (numbers (fs .found))) → refused 13 ≡ termsBy r (value how)
+        go (refused n) found h = absurd (false≢true (sym found))
+        go (value fs) found h = last (fs .rest) (numbers (fs .found)) h
 
     -- two numbers
-    pub terms-all : {x : Read (List ℕ)} → value (value x) ≡ fieldsThenNumbers 2 (m .rest) → value (record { found = termsOf how (x .found); rest = x .rest }) ≡ readTerms s
-    unfolding termsBy
-    terms-all h = terms-read h hw
+    pub terms-all : {x : Read (List ℕ)} → value x ≡ readRow 2 (m .rest) → value (record { found = termsOf how (x .found); rest = x .rest }) ≡ readTerms s
+    unfolding readRow termsBy
+    terms-all {x} h = go (readFields 2 (m .rest)) h ∙ ap (termsBy (readFields 2 (m .rest))) hw ∙ terms-by
+      where
+        last : (u : Text) (q : Result (List ℕ)) → value x ≡ before u q → _≡_ {A = Result (Read Terms)} (value (record { found = termsOf how (x .found); rest = x .rest })) (q >>= λ ns. value (record { found = termsOf how ns; rest = u }))
+        last u (refused n) h = absurd (never n x (sym h))
+        last u (value ns) h = let is : x ≡ record { found = ns; rest = u } = cc in rw is
+
+        go : (r : Result (Read (List Text))) → value x ≡ (r >>= λ fs. before (fs .rest) (numbers (fs .found))) → value (record { found = termsOf how (x .found); rest = x .rest }) ≡ termsBy r (value how)
+        go (refused n) h = absurd (never n x (sym h))
+        go (value fs) h = last (fs .rest) (numbers (fs .found)) h
 
 -- ---- lines 1 to 3
 
@@ -347,15 +335,6 @@ module _ (s : Text) (fits : length s ≤ MOST_BYTES) where
       head-all h = rw (le-ltb MOST_BYTES (length s) fits, ← hn, ← ht, ← h)
 
 -- ---- the lines to the end of the text
-
--- a line's numbers, where its fields are known
-row-read : (k : ℕ) (s : Text) (r : Result (Result (Read (List ℕ)))) → r ≡ fieldsThenNumbers k s → (r >>= λ q. q) ≡ readRow k s
-unfolding readRow fieldsThenNumbers valued
-row-read k s r e = rw e (go (readFields k s))
-  where
-    go : (fs : Result (Read (List Text))) → (valued fs >>= λ q. q) ≡ (fs >>= λ fs. before (fs .rest) (numbers (fs .found)))
-    go (refused n) = refl
-    go (value fs) = refl
 
 -- rows in front of those that are read
 unfoldable pub above : List (List ℕ) → Result (List (List ℕ)) → Result (List (List ℕ))
@@ -400,14 +379,10 @@ module _ {most k : ℕ} {s : Text} {from : ℕ} {rows : List (List ℕ)} {at n :
 
   module _ (lt : at < length s) (le : n < most) where
     -- it has not its numbers
-    pub rows-malformed : (t : Text) (row : List ℕ) (r : Fields) → OneOf (1 ∷ 2 ∷ []) (tagOf the-type r) → fieldsMean t row r ≡ fieldsThenNumbers k (drop at s) → refused 13 ≡ readRows most k (drop from s)
+    pub rows-malformed : refused 13 ≡ readRow k (drop at s) → refused 13 ≡ readRows most k (drop from s)
     unfolding above
-    rows-malformed t row (Fields.Numbers next) o h = absurd (⊎-elim (λ z. omega arith) (λ z. omega arith) o)
-    rows-malformed t row Fields.Malformed o h = sym (next-row lt le ∙ rw (← row-read k (drop at s) (value (refused 13)) h))
-    rows-malformed t row Fields.Missing o h = sym (next-row lt le ∙ rw (← row-read k (drop at s) (refused 13) h))
+    rows-malformed h = sym (next-row lt le ∙ rw (← h))
 
     -- one more row
-    pub rows-more : {row : List ℕ} {next : ℕ} → value (value (record { found = row; rest = drop next s })) ≡ fieldsThenNumbers k (drop at s) → RowsTo most k s from (rows ++ (row ∷ [])) next (n + 1)
-    rows-more {row} {next} h =
-        let h′ : value (record { found = row; rest = drop next s }) ≡ readRow k (drop at s) = row-read k (drop at s) (value (value (record { found = row; rest = drop next s }))) h in
-        record { reads = next-row lt le ∙ rw (← h′) (above-above rows (row ∷ []) (readRows (most - (n + 1)) k (drop next s))) }
+    pub rows-more : {row : List ℕ} {next : ℕ} → value (record { found = row; rest = drop next s }) ≡ readRow k (drop at s) → RowsTo most k s from (rows ++ (row ∷ [])) next (n + 1)
+    rows-more {row} {next} h = record { reads = next-row lt le ∙ rw (← h) (above-above rows (row ∷ []) (readRows (most - (n + 1)) k (drop next s))) }

@@ -1,24 +1,18 @@
--- A number that is written reads back.
+-- A number reads back from its digits, with zeros in front of them or without.
 use Prim.Native.Nat.{ℕ, zero, suc, _+_, _*_, _/_, _%_, _^_, _≤_, _<_}
 use mathlib.Core.Path.{_≡_, refl, ap, _∙_}
-use mathlib.Core.Bool.{Bool, true, false, not, _&&_, false≢true}
-use mathlib.Core.List.{List, [], _∷_, _++_, append-assoc, append-nil}
+use mathlib.Core.Bool.{true}
+use mathlib.Core.List.{List, [], _∷_, _++_, append-nil}
 use native.Mathlib.Omega.{arith}
 use native.Mathlib.Nat.{pow-suc}
 use native.Mathlib.Decide.{decLt}
-use borrow.Author.Tests.{le-leb, leb-true, ne-eqb}
-use lib.Dec.{eqb, leb}
+use borrow.Author.Tests.{le-leb}
+use lib.ListN.{length, replicate, length-append, length-replicate}
 use Rattle.series.specs.Results.{value}
-use Rattle.series_text.specs.Fields.{Text, ends, fieldBy, writeNumber}
-use Rattle.series_text.specs.Parts.{numberBy}
-use Rattle.series_text.specs.Numbers.{LARGEST, digit, digits, spelled, amountFrom, amount, numeral, number, decimalIn, decimal}
-use Rattle.series_text.proofs.FieldLaws.{prefixed, prefixed-nil, prefixed-prefixed, field-byte, field-end, ends-digit, digits-append, amount-more, numbered, numberBy-numbered}
-use Rattle.series_text.proofs.DecimalLaws.{decimal-small, decimal-large}
-
--- both parts of a test that holds
-pub and-true-parts : (a b : Bool) → (a && b) ≡ true → (a ≡ true) × (b ≡ true)
-and-true-parts true b e = (refl, e)
-and-true-parts false b e = absurd (false≢true e)
+use Rattle.series_text.specs.Fields.{Text, ends, fieldBy}
+use Rattle.series_text.specs.Numbers.{LARGEST, MOST_DIGITS, digit, digits, spelled, amountFrom, amount, numeral, number, decimalIn, decimal}
+use Rattle.series_text.proofs.FieldLaws.{prefixed, prefixed-nil, prefixed-prefixed, field-byte, field-end, and-true-parts, ends-digit, digits-append, amount-more}
+use Rattle.series_text.proofs.DecimalLaws.{decimal-small, decimal-large, digits-few, digits-some}
 
 -- ---- the digits of a number are digits
 
@@ -55,69 +49,56 @@ amount-in (suc k) n lt = go (amount-in k (n / 10)) (decLt n 10)
         let e : 10 ^ suc k ≡ 10 ^ k * 10 = pow-suc 10 k in
         rw (decimal-large k n le, amount-more, h (omega arith)) (omega arith)
 
--- ---- they spell it
+-- ---- so a number reads back, with zeros in front or without
 
--- the first byte is no zero
-leading : List ℕ → Bool
-leading [] = false
-leading (b ∷ f) = not (eqb b 48)
+-- one to ten digits that stand for a number read as it
+pub digits-read : (f : List ℕ) (n : ℕ) → digits f ≡ true → 1 ≤ length f → length f ≤ MOST_DIGITS → amount f ≡ n → n ≤ LARGEST → number f ≡ value n
+unfolding number numeral spelled
+digits-read f n only some few is fits = rw (only, le-leb 1 (length f) some, le-leb (length f) MOST_DIGITS few, is, le-leb n LARGEST fits)
 
-leading-append : (f g : List ℕ) → leading f ≡ true → leading (f ++ g) ≡ true
-unfolding leading
-leading-append [] g e = let z : _≡_ {A = Bool} false true = e in absurd (false≢true z)
-leading-append (b ∷ f) g e = e
+-- so many zeros in front of digits
+abbrev pub padded : ℕ → List ℕ → List ℕ
+padded zeros f = replicate zeros 48 ++ f
 
-leading-in : (k n : ℕ) → 0 < n → n < 10 ^ k → leading (decimalIn k n) ≡ true
-unfolding decimalIn leading
-leading-in zero n pos lt = absurd (omega arith)
-leading-in (suc k) n pos lt = go (leading-in k (n / 10)) (decLt n 10)
-  where
-    go : (0 < n / 10 → n / 10 < 10 ^ k → leading (decimalIn k (n / 10)) ≡ true) → Dec (n < 10) → leading (decimalIn (suc k) n) ≡ true
-    go h (yes small) = rw (decimal-small k n small, ne-eqb (48 + n) 48 (omega arith))
-    go h (no ge) =
-        let le : 10 ≤ n = omega arith in
-        let e : 10 ^ suc k ≡ 10 ^ k * 10 = pow-suc 10 k in
-        rw (decimal-large k n le) (leading-append (decimalIn k (n / 10)) ((48 + n % 10) ∷ []) (h (omega arith) (omega arith)))
+padded-digits : (zeros : ℕ) (f : List ℕ) → digits (padded zeros f) ≡ digits f
+unfolding digits digit
+padded-digits zero f = refl
+padded-digits (suc k) f = padded-digits k f
 
-spelled-leading : (f : List ℕ) → leading f ≡ true → spelled f ≡ true
-unfolding leading spelled
-spelled-leading [] e = e
-spelled-leading (b ∷ []) e = refl
-spelled-leading (b ∷ c ∷ f) e = e
+padded-amount : (zeros : ℕ) (f : List ℕ) → amount (padded zeros f) ≡ amount f
+unfolding amount amountFrom
+padded-amount zero f = refl
+padded-amount (suc k) f = padded-amount k f
 
-spelled-in : (k n : ℕ) → n < 10 ^ suc k → spelled (decimalIn (suc k) n) ≡ true
-unfolding spelled
-spelled-in k n lt = go (decLt n 10)
-  where
-    go : Dec (n < 10) → spelled (decimalIn (suc k) n) ≡ true
-    go (yes small) = rw (decimal-small k n small)
-    go (no ge) = spelled-leading (decimalIn (suc k) n) (leading-in (suc k) n (omega arith) lt)
+pub padded-length : (zeros : ℕ) (f : List ℕ) → length (padded zeros f) ≡ zeros + length f
+padded-length zeros f = length-append (replicate zeros 48) f ∙ ap (_+ length f) (length-replicate zeros 48)
 
--- ---- so a number that is written reads back
+-- a spelling of a number has digits only
+pub spelling-digits : (zeros n : ℕ) → digits (padded zeros (decimal n)) ≡ true
+unfolding decimal
+spelling-digits zeros n = padded-digits zeros (decimal n) ∙ digits-in 10 n
+
+-- any spelling of a number within ten digits reads as that number
+pub spelling-reads : (zeros n : ℕ) → n ≤ LARGEST → length (padded zeros (decimal n)) ≤ MOST_DIGITS → number (padded zeros (decimal n)) ≡ value n
+unfolding decimal
+spelling-reads zeros n fits few =
+    let f : List ℕ = padded zeros (decimal n) in
+    digits-read f n (spelling-digits zeros n) (omega (arith, padded-length zeros (decimal n), digits-some n)) few
+    (padded-amount zeros (decimal n) ∙ amount-in 10 n (omega arith)) fits
 
 pub number-decimal : (n : ℕ) → n ≤ LARGEST → number (decimal n) ≡ value n
-unfolding number numeral decimal
-number-decimal n le =
-    let lt : n < 10 ^ 10 = omega arith in
-    rw (digits-in 10 n, spelled-in 9 n lt, amount-in 10 n lt, le-leb n LARGEST le)
+number-decimal n le = spelling-reads 0 n le (digits-few n)
 
 -- digits in front of a text belong to its first field
 field-digits : (c : ℕ) (f s : Text) → digits f ≡ true → fieldBy c (f ++ s) ≡ prefixed f (fieldBy c s)
-unfolding digits digit
+unfolding digits
 field-digits c [] s e = prefixed-nil (fieldBy c s)
 field-digits c (b ∷ f) s e =
     let both = and-true-parts (digit b) (digits f) e in
-    let low : 48 ≤ b = leb-true 48 b (and-true-parts (leb 48 b) (leb b 57) (both .0) .0) in
-    field-byte c b (f ++ s) (ends-digit b low) ∙ ap (prefixed (b ∷ [])) (field-digits c f s (both .1)) ∙ prefixed-prefixed (b ∷ []) f (fieldBy c s)
+    field-byte c b (f ++ s) (ends-digit b (both .0)) ∙ ap (prefixed (b ∷ [])) (field-digits c f s (both .1)) ∙ prefixed-prefixed (b ∷ []) f (fieldBy c s)
 
-pub field-number : (c n : ℕ) (s : Text) → ends c ≡ true → fieldBy c (writeNumber n c ++ s) ≡ value (record { found = decimal n; rest = s })
-unfolding writeNumber prefixed decimal
-field-number c n s e =
-    ap (fieldBy c) (append-assoc (decimal n) (c ∷ []) s)
-    ∙ field-digits c (decimal n) (c ∷ s) (digits-in 10 n)
-    ∙ ap (prefixed (decimal n)) (field-end c s e)
-    ∙ ap (λ (f : Text). value (record { found = f; rest = s })) (append-nil (decimal n))
-
-pub read-number : (c n : ℕ) (s : Text) → ends c ≡ true → n ≤ LARGEST → numberBy c (writeNumber n c ++ s) ≡ value (record { found = n; rest = s })
-unfolding numbered
-read-number c n s e le = numberBy-numbered c (writeNumber n c ++ s) ∙ ap numbered (field-number c n s e) ∙ rw (number-decimal n le)
+-- digits and the byte that ends them are a field
+pub field-spelled : (c : ℕ) (f s : Text) → ends c ≡ true → digits f ≡ true → fieldBy c (f ++ (c ∷ s)) ≡ value (record { found = f; rest = s })
+unfolding prefixed
+field-spelled c f s e only =
+    field-digits c f (c ∷ s) only ∙ ap (prefixed f) (field-end c s e) ∙ ap (λ (g : Text). value (record { found = g; rest = s })) (append-nil f)

@@ -1,8 +1,8 @@
--- What writing wrote reads back as the same series: of the definitions, and of the two calls.
+-- A text reads as its series whatever the spellings of its numbers, and so does what writing wrote: of the definitions, and of the two calls.
 use Prim.Native.Nat.{ℕ, _+_, _*_, _≤_}
 use mathlib.Core.Path.{_≡_, refl, sym, ap, _∙_}
 use mathlib.Core.Bool.{true, false, not, _&&_}
-use mathlib.Core.List.{List, [], _∷_, _++_, append-assoc}
+use mathlib.Core.List.{List, [], _∷_, _++_, map, append-assoc}
 use native.Mathlib.Omega.{arith}
 use borrow.Author.Tests.{le-ltb, ltb-false, eq-eqb, eqb-true, not-false}
 use lib.Dec.{eqb, ltb}
@@ -15,19 +15,17 @@ use Rattle.series.specs.Series.{Series, exercised, draw}
 use Rattle.series.specs.declared.Method.{Method}
 use Rattle.series.specs.declared.Terms.{Terms}
 use Rattle.series.proofs.ResultLaws.{value-is, stepped, not-refused}
-use Rattle.series_text.specs.Numbers.{LARGEST}
+use Rattle.series_text.specs.Numbers.{LARGEST, decimal}
 use Rattle.series_text.specs.Fields.{Text, COMMA, ends, fieldBy}
-use Rattle.series_text.specs.Rows.{writeRow, writeRows, rowsOf}
+use Rattle.series_text.specs.Rows.{rowsOf}
 use Rattle.series_text.specs.Names.{namesLine, afterLine, headingOr, readNames}
 use Rattle.series_text.specs.Letters.{letter, methodBy, methodOf}
 use Rattle.series_text.specs.Text.{MOST_BYTES, MOST_LINES, readTerms, readHead, readText, writeTerms, writeHead, columns, writeText}
 use Rattle.series_text.specs.Calls.{readingOf, readInto, handed, evenly, lineCount, linesInto, writeInto, lengthOf}
 use Rattle.series_text.specs.declared.names.Heading.{Heading}
 use Rattle.series_text.specs.declared.Reading.{Reading}
-use Rattle.series_text.proofs.FieldLaws.{prefixed, field-byte, field-end}
-use Rattle.series_text.proofs.NumberLaws.{and-true-parts}
-use Rattle.series_text.proofs.LengthLaws.{head-room, rows-room}
-use Rattle.series_text.proofs.RowLaws.{Fits, fits-none, fits-more, fields-back, numbers-back, rows-back, rows-each, rows-fit}
+use Rattle.series_text.proofs.FieldLaws.{prefixed, field-byte, field-end, and-true-parts}
+use Rattle.series_text.proofs.RowLaws.{Fits, fits-none, fits-more, fieldsLine, FieldsSpell, numbers-read, fields-read, row-spells, row-line, line-few, fieldsLines, LinesSpell, rows-read, rows-spell, rows-lines, lines-few, rows-fit}
 use Rattle.series_text.proofs.ColumnLaws.{length-rows, column-first, column-second}
 
 -- what can be written: numbers of 32 bits, and at most 1,024 positions, an account and its shorts each
@@ -65,38 +63,84 @@ letter-method Method.Wheel = refl
 letter-method Method.ProRata = refl
 letter-method Method.Lottery = refl
 
-terms-back : (t : Terms) (s : Text) → t .exercised .0 ≤ LARGEST → t .draw ≤ LARGEST → readTerms (writeTerms t ++ s) ≡ value (record { found = t; rest = s })
-unfolding readTerms writeTerms
-terms-back t s fe fd =
+-- line 2 by the method m, S and the draw spelled by these fields
+unfoldable pub spelledTerms : Method → List Text → Text
+spelledTerms m terms = letter m ∷ COMMA ∷ fieldsLine terms
+
+terms-back : (t : Terms) (terms : List Text) (s : Text) → FieldsSpell terms (t .exercised .0 ∷ t .draw ∷ []) → readTerms (spelledTerms (t .method) terms ++ s) ≡ value (record { found = t; rest = s })
+unfolding readTerms spelledTerms
+terms-back t terms s so =
     let ns : List ℕ = t .exercised .0 ∷ t .draw ∷ [] in
-    let fits : Fits ns = fits-more (t .exercised .0) (t .draw ∷ []) fe (fits-more (t .draw) [] fd fits-none) in
-    rw (letter-field (t .method) (writeRow ns ++ s), fields-back ns s, letter-method (t .method), numbers-back ns fits)
+    rw (letter-field (t .method) (fieldsLine terms ++ s), fields-read terms ns s so, letter-method (t .method), numbers-read terms ns so)
 
-head-back : (t : Terms) (s : Text) → t .exercised .0 ≤ LARGEST → t .draw ≤ LARGEST → length (writeHead t ++ s) ≤ MOST_BYTES → readHead (writeHead t ++ s) ≡ value (record { found = t; rest = s })
-unfolding readHead writeHead
-head-back t s fe fd few =
+-- lines 1 to 3
+unfoldable pub spelledHead : Method → List Text → Text
+spelledHead m terms = namesLine Heading.Terms ++ (spelledTerms m terms ++ namesLine Heading.Positions)
+
+head-back : (t : Terms) (terms : List Text) (s : Text) → FieldsSpell terms (t .exercised .0 ∷ t .draw ∷ []) → length (spelledHead (t .method) terms ++ s) ≤ MOST_BYTES → readHead (spelledHead (t .method) terms ++ s) ≡ value (record { found = t; rest = s })
+unfolding readHead spelledHead
+head-back t terms s so few =
     let first : Text = namesLine Heading.Terms in
+    let second : Text = spelledTerms (t .method) terms in
     let third : Text = namesLine Heading.Positions in
-    rw (le-ltb MOST_BYTES (length (writeHead t ++ s)) few, append-assoc first (writeTerms t ++ third) s, append-assoc (writeTerms t) third s, names-back Heading.Terms [] (writeTerms t ++ (third ++ s)), terms-back t (third ++ s) fe fd, names-back Heading.Positions [] s)
+    rw (le-ltb MOST_BYTES (length (spelledHead (t .method) terms ++ s)) few, append-assoc first (second ++ third) s, append-assoc second third s, names-back Heading.Terms [] (second ++ (third ++ s)), terms-back t terms (third ++ s) so, names-back Heading.Positions [] s)
 
--- ---- the length of a text
+-- the text by the method m, S and the draw spelled by these fields, and the positions by these lines
+unfoldable pub spelledText : Method → List Text → List (List Text) → Text
+spelledText m terms lines = spelledHead m terms ++ fieldsLines lines
 
--- lines 1 to 3 have at most 60 bytes and a position line at most 22, so that a text of 1,024 positions has at most 22,588
-pub text-few : (t : Series) → length (writeText t) ≤ 60 + 22 * length (t .accounts)
-unfolding writeText lineCount
-text-few t =
+-- the fields spell the numbers of a series of at most 1,024 positions, an account and its shorts each
+pub record TextSpells (t : Series) (terms : List Text) (lines : List (List Text)) : Type 0 where
+  pub values : FieldsSpell terms (exercised t ∷ draw t ∷ [])
+  pub rows : LinesSpell 2 lines (rowsOf (columns t))
+  pub same : length (t .shorts) ≡ length (t .accounts)
+  pub few : length (t .accounts) ≤ MOST_LINES
+
+-- ---- the laws
+
+-- lines 1 to 3 have at most 60 bytes and a position line at most 22, so that a text of 1,024 positions has at most 22,588, whatever its spellings
+pub spelled-few : (t : Series) (terms : List Text) (lines : List (List Text)) → TextSpells t terms lines → length (spelledText (t .terms .method) terms lines) ≤ 60 + 22 * length (t .accounts)
+unfolding spelledText spelledHead spelledTerms namesLine ascii
+spelled-few t terms lines so =
+    let m : Method = t .terms .method in
+    let third : Text = namesLine Heading.Positions in
+    omega (arith, length-append (spelledHead m terms) (fieldsLines lines), length-append (namesLine Heading.Terms) (spelledTerms m terms ++ third), length-append (spelledTerms m terms) third, line-few terms (exercised t ∷ draw t ∷ []) (so .values), lines-few 2 lines (rowsOf (columns t)) (so .rows), length-rows (t .accounts) (t .shorts ∷ []))
+
+-- a text whose fields spell the numbers of a series, each in any of its spellings, reads as that series
+pub any-spelling : (t : Series) (terms : List Text) (lines : List (List Text)) → TextSpells t terms lines → readText (spelledText (t .terms .method) terms lines) ≡ value t
+unfolding readText spelledText
+any-spelling t terms lines so =
     let rows : List (List ℕ) = rowsOf (columns t) in
-    omega (arith, length-append (writeHead (t .terms)) (writeRows rows), head-room (t .terms), rows-room (columns t))
+    let few : length (spelledText (t .terms .method) terms lines) ≤ MOST_BYTES = omega (arith, spelled-few t terms lines so, so .few) in
+    rw (head-back (t .terms) terms (fieldsLines lines) (so .values) few, rows-read MOST_LINES 2 lines rows (omega arith) (omega (arith, length-rows (t .accounts) (t .shorts ∷ []), so .few)) (so .rows), column-first (t .accounts) (t .shorts), column-second (t .accounts) (t .shorts) (so .same))
 
--- ---- the law
+-- the digits that are written for a series
+abbrev writtenTerms : Series → List Text
+writtenTerms t = map decimal (exercised t ∷ draw t ∷ [])
+
+abbrev writtenLines : Series → List (List Text)
+writtenLines t = map (map decimal) (rowsOf (columns t))
+
+-- they spell its numbers
+written-spells : (t : Series) → Writable t → TextSpells t (writtenTerms t) (writtenLines t)
+written-spells t w =
+    let ns : List ℕ = exercised t ∷ draw t ∷ [] in
+    let fits : Fits ns = fits-more (exercised t) (draw t ∷ []) (w .exercised) (fits-more (draw t) [] (w .draw) fits-none) in
+    record {
+      values = row-spells ns fits;
+      rows = rows-spell 2 (rowsOf (columns t)) (rows-fit (columns t) (w .accounts, (w .shorts, tt)));
+      same = w .same;
+      few = w .few;
+    }
+
+-- and make its text
+written-text : (t : Series) → writeText t ≡ spelledText (t .terms .method) (writtenTerms t) (writtenLines t)
+unfolding writeText writeHead writeTerms spelledText spelledHead spelledTerms
+written-text t = rw (row-line (exercised t ∷ draw t ∷ []), rows-lines (rowsOf (columns t)))
 
 -- for every method, S, draw and list of at most 1,024 positions of numbers of 32 bits, the text that is written reads as the same series
 pub round-trip : (t : Series) → Writable t → readText (writeText t) ≡ value t
-unfolding readText writeText
-round-trip t w =
-    let rows : List (List ℕ) = rowsOf (columns t) in
-    let few : length (writeText t) ≤ MOST_BYTES = omega (arith, text-few t, w .few) in
-    rw (head-back (t .terms) (writeRows rows) (w .exercised) (w .draw) few, rows-back MOST_LINES 2 rows (omega arith) (omega (arith, length-rows (t .accounts) (t .shorts ∷ []), w .few)) (rows-fit (columns t) (w .accounts, (w .shorts, tt))), column-first (t .accounts) (t .shorts), column-second (t .accounts) (t .shorts) (w .same))
+round-trip t w = ap readText (written-text t) ∙ any-spelling t (writtenTerms t) (writtenLines t) (written-spells t w)
 
 -- ---- the two calls
 

@@ -1,22 +1,23 @@
--- A row reads back as its numbers, what reads as a row is its line, and how long the line is; the same of lines of rows.
+-- A line of fields that spell numbers reads as these numbers, what reads as a row is such a line, and how long the line that is written is; the same of lines of rows.
 use Prim.Native.Nat.{ℕ, zero, suc, _+_, _*_, _≤_, _<_}
-use mathlib.Core.Path.{_≡_, refl, ap, subst, _∙_}
+use mathlib.Core.Path.{_≡_, refl, sym, ap, subst, _∙_}
 use mathlib.Core.Bool.{Bool, true, false, cond}
 use mathlib.Core.List.{List, [], _∷_, _++_, map, append-assoc}
 use native.Mathlib.Omega.{arith}
+use native.Mathlib.Nat.{mul-suc}
 use borrow.Author.Tests.{eqb-true}
 use lib.Dec.{eqb}
-use lib.ListN.{length, getD, drop, length-append}
+use lib.ListN.{length, getD, drop, length-append, length-map}
 use Rattle.series.specs.Results.{refused, value, _>>=_}
 use Rattle.series.specs.Sums.{sumBelow, listed}
 use Rattle.series.proofs.ResultLaws.{never, value-is, stepped}
 use Rattle.series.proofs.SumLaws.{sum-mono, sum-const, sum-head}
-use Rattle.series_text.specs.Numbers.{LARGEST, number, decimal}
+use Rattle.series_text.specs.Numbers.{LARGEST, MOST_DIGITS, digits, number, decimal}
 use Rattle.series_text.specs.Fields.{Text, Read, ends, field, past, fieldBy, endBefore, readFields, writeNumber}
 use Rattle.series_text.specs.Rows.{numbers, readRow, readRows, writeRow, writeRows, rowOf, rowsOf, column}
 use Rattle.series_text.proofs.DecimalLaws.{digits-few}
-use Rattle.series_text.proofs.NumberLaws.{number-decimal, field-number}
-use Rattle.series_text.proofs.SpellingLaws.{Spells, number-is}
+use Rattle.series_text.proofs.NumberLaws.{field-spelled}
+use Rattle.series_text.proofs.SpellingLaws.{Spells, number-is, spells-reads, spells-digits, decimal-spells}
 
 -- every number of the list fits 32 bits
 abbrev pub Fits : List ℕ → Type 0
@@ -43,31 +44,25 @@ pub each-so : {A : Type 0} (P Q : A → Type 0) (l : List A) → ((a : A) → P 
 each-so P Q [] h each = tt
 each-so P Q (a ∷ l) h each = (h a (each .0), each-so P Q l h (each .1))
 
--- ---- a row that is written reads back
+-- ---- a line of fields
 
-pub end-ends : (k : ℕ) → ends (endBefore k) ≡ true
+-- the fields of a line, each with the byte that ends it
+unfoldable pub fieldsLine : List Text → Text
+fieldsLine [] = []
+fieldsLine (f ∷ fs) = f ++ (endBefore (length fs) ∷ fieldsLine fs)
+
+end-ends : (k : ℕ) → ends (endBefore k) ≡ true
 unfolding ends endBefore
 end-ends zero = refl
 end-ends (suc k) = refl
 
--- its fields are the digits of its numbers
-pub fields-back : (ns : List ℕ) (s : Text) → readFields (length ns) (writeRow ns ++ s) ≡ value (record { found = map decimal ns; rest = s })
-unfolding readFields writeRow
-fields-back [] s = refl
-fields-back (n ∷ ns) s =
-    let c : ℕ = endBefore (length ns) in
-    rw (append-assoc (writeNumber n c) (writeRow ns) s, field-number c n (writeRow ns ++ s) (end-ends (length ns)), fields-back ns s)
-
-pub numbers-back : (ns : List ℕ) → Fits ns → numbers (map decimal ns) ≡ value ns
-unfolding numbers
-numbers-back [] fits = refl
-numbers-back (n ∷ ns) fits = rw (number-decimal n (fits 0), numbers-back ns (λ i. fits (suc i)))
-
-pub row-back : (ns : List ℕ) (s : Text) → Fits ns → readRow (length ns) (writeRow ns ++ s) ≡ value (record { found = ns; rest = s })
-unfolding readRow
-row-back ns s fits = rw (fields-back ns s, numbers-back ns fits)
-
--- ---- what reads as a row is its line
+-- fields of digits read back
+fields-back : (fs : List Text) (s : Text) → Each (λ f. digits f ≡ true) fs → readFields (length fs) (fieldsLine fs ++ s) ≡ value (record { found = fs; rest = s })
+unfolding readFields fieldsLine
+fields-back [] s each = refl
+fields-back (f ∷ fs) s each =
+    let c : ℕ = endBefore (length fs) in
+    rw (append-assoc f (c ∷ fieldsLine fs) s, field-spelled c f (fieldsLine fs ++ s) (end-ends (length fs)) (each .0), fields-back fs s (each .1))
 
 field-split : (s : Text) → s ≡ field s ++ drop (length (field s)) s
 unfolding field
@@ -94,65 +89,130 @@ field-is c s x e =
     let is : _≡_ {A = Read Text} (record { found = field s; rest = o .from }) x = value-is (o .on) in
     field-split s ∙ ap (λ (l : Text). field s ++ l) (past-is c (drop (length (field s)) s) (o .from) (o .step)) ∙ ap (λ (y : Read Text). y .found ++ (c ∷ y .rest)) is
 
--- the text s is the line of a row of k numbers, and then rest
-pub record Begins (k : ℕ) (s : Text) (ns : List ℕ) (rest : Text) : Type 0 where
-  pub text : s ≡ writeRow ns ++ rest
-  pub row : Figures k ns
+-- the text s is a line of k fields, and then what is left
+pub record Begins (k : ℕ) (s : Text) (x : Read (List Text)) : Type 0 where
+  pub text : s ≡ fieldsLine (x .found) ++ x .rest
+  pub long : length (x .found) ≡ k
 
--- a number, the byte that ends it, and two texts after it
-joined : (d : Text) (c : ℕ) (l rest : Text) → d ++ (c ∷ (l ++ rest)) ≡ d ++ (c ∷ []) ++ l ++ rest
-joined d c l rest = simp append-assoc
-
--- k fields that are numbers
-pub fields-are : (k : ℕ) (s : Text) (fs : Read (List Text)) (ns : List ℕ) → readFields k s ≡ value fs → numbers (fs .found) ≡ value ns → Begins k s ns (fs .rest)
-unfolding readFields numbers writeRow writeNumber
-fields-are zero s fs ns e h =
-    let is : _≡_ {A = Read (List Text)} (record { found = []; rest = s }) fs = value-is e in
-    let none : [] ≡ ns = value-is (ap (λ (y : Read (List Text)). numbers (y .found)) is ∙ h) in
-    rw (← none, ← is) (record { text = refl; row = record { long = refl; fits = fits-none } })
-fields-are (suc k) s fs ns e h =
-    let f = stepped (fieldBy (endBefore k) s) _ fs e in
-    let gs = stepped (readFields k (f .from .rest)) _ fs (f .on) in
-    let is : _≡_ {A = Read (List Text)} (record { found = f .from .found ∷ gs .from .found; rest = gs .from .rest }) fs = value-is (gs .on) in
-    let n = stepped (number (f .from .found)) _ ns (ap (λ (y : Read (List Text)). numbers (y .found)) is ∙ h) in
-    let ms = stepped (numbers (gs .from .found)) _ ns (n .on) in
-    let all : n .from ∷ ms .from ≡ ns = value-is (ms .on) in
-    let first : Spells (f .from .found) (n .from) = number-is (f .from .found) (n .from) (n .step) in
-    let others : Begins k (f .from .rest) (ms .from) (gs .from .rest) = fields-are k (f .from .rest) (gs .from) (ms .from) (gs .step) (ms .step) in
+-- what reads as fields is their line
+pub fields-are : (k : ℕ) (s : Text) (x : Read (List Text)) → readFields k s ≡ value x → Begins k s x
+unfolding readFields fieldsLine
+fields-are zero s x e =
+    let is : _≡_ {A = Read (List Text)} (record { found = []; rest = s }) x = value-is e in
+    subst (Begins zero s) is (record { text = refl; long = refl })
+fields-are (suc k) s x e =
+    let f = stepped (fieldBy (endBefore k) s) _ x e in
+    let gs = stepped (readFields k (f .from .rest)) _ x (f .on) in
+    let is : _≡_ {A = Read (List Text)} (record { found = f .from .found ∷ gs .from .found; rest = gs .from .rest }) x = value-is (gs .on) in
+    let others : Begins k (f .from .rest) (gs .from) = fields-are k (f .from .rest) (gs .from) (gs .step) in
     let c : ℕ = endBefore k in
-    let text : s ≡ writeNumber (n .from) c ++ writeRow (ms .from) ++ gs .from .rest
+    let text : s ≡ (f .from .found ++ (c ∷ fieldsLine (gs .from .found))) ++ gs .from .rest
     = field-is c s (f .from) (f .step)
-    ∙ ap (λ (l : Text). l ++ (c ∷ f .from .rest)) (first .text)
-    ∙ ap (λ (l : Text). decimal (n .from) ++ (c ∷ l)) (others .text)
-    ∙ joined (decimal (n .from)) c (writeRow (ms .from)) (gs .from .rest) in
-    let line : Begins (suc k) s (n .from ∷ ms .from) (gs .from .rest)
-    = record {
-      text = rw (others .row .long) text;
-      row = record { long = ap suc (others .row .long); fits = fits-more (n .from) (ms .from) (first .fits) (others .row .fits) };
-    } in
-    subst (λ (y : Read (List Text)). Begins (suc k) s ns (y .rest)) is (subst (λ (l : List ℕ). Begins (suc k) s l (gs .from .rest)) all line)
+    ∙ ap (λ (l : Text). f .from .found ++ (c ∷ l)) (others .text)
+    ∙ sym (append-assoc (f .from .found) (c ∷ fieldsLine (gs .from .found)) (gs .from .rest)) in
+    subst (Begins (suc k) s) is (record { text = rw (others .long) text; long = ap suc (others .long) })
 
-pub row-is : (k : ℕ) (s : Text) (r : Read (List ℕ)) → readRow k s ≡ value r → Begins k s (r .found) (r .rest)
+-- ---- fields that spell numbers
+
+-- each field spells its number
+unfoldable pub FieldsSpell : List Text → List ℕ → Type 0
+FieldsSpell [] [] = Unit {0}
+FieldsSpell [] (n ∷ ns) = ⊥
+FieldsSpell (f ∷ fs) [] = ⊥
+FieldsSpell (f ∷ fs) (n ∷ ns) = Spells f n × FieldsSpell fs ns
+
+pub numbers-are : (fs : List Text) (ns : List ℕ) → numbers fs ≡ value ns → FieldsSpell fs ns
+unfolding numbers FieldsSpell
+numbers-are [] [] e = tt
+numbers-are [] (n ∷ ns) e = let bad : [] ≡ n ∷ ns = value-is e in absurd (omega (arith, ap length bad))
+numbers-are (f ∷ fs) ns e =
+    let n = stepped (number f) _ ns e in
+    let ms = stepped (numbers fs) _ ns (n .on) in
+    let all : n .from ∷ ms .from ≡ ns = value-is (ms .on) in
+    subst (FieldsSpell (f ∷ fs)) all (number-is f (n .from) (n .step), numbers-are fs (ms .from) (ms .step))
+
+pub numbers-read : (fs : List Text) (ns : List ℕ) → FieldsSpell fs ns → numbers fs ≡ value ns
+unfolding numbers FieldsSpell
+numbers-read [] [] so = refl
+numbers-read [] (n ∷ ns) so = absurd so
+numbers-read (f ∷ fs) [] so = absurd so
+numbers-read (f ∷ fs) (n ∷ ns) so = rw (spells-reads f n (so .0), numbers-read fs ns (so .1))
+
+-- what is known of them: as many fields, of at most ten digits, as numbers, which fit 32 bits
+pub record SpellFacts (fs : List Text) (ns : List ℕ) : Type 0 where
+  pub long : length fs ≡ length ns
+  pub only : Each (λ f. digits f ≡ true) fs
+  pub few : Each (λ f. length f ≤ MOST_DIGITS) fs
+  pub fits : Fits ns
+
+pub spell-facts : (fs : List Text) (ns : List ℕ) → FieldsSpell fs ns → SpellFacts fs ns
+unfolding FieldsSpell
+spell-facts [] [] so = record { long = refl; only = tt; few = tt; fits = fits-none }
+spell-facts [] (n ∷ ns) so = absurd so
+spell-facts (f ∷ fs) [] so = absurd so
+spell-facts (f ∷ fs) (n ∷ ns) so =
+    let others : SpellFacts fs ns = spell-facts fs ns (so .1) in
+    record { long = ap suc (others .long); only = (spells-digits f n (so .0), others .only); few = (so .0 .few, others .few); fits = fits-more n ns (so .0 .fits) (others .fits) }
+
+-- the line of such fields reads as the numbers, whatever their spellings
+pub fields-read : (fs : List Text) (ns : List ℕ) (s : Text) → FieldsSpell fs ns → readFields (length ns) (fieldsLine fs ++ s) ≡ value (record { found = fs; rest = s })
+fields-read fs ns s so = let known : SpellFacts fs ns = spell-facts fs ns so in rw (← known .long) (fields-back fs s (known .only))
+
+pub row-reads : (fs : List Text) (ns : List ℕ) (s : Text) → FieldsSpell fs ns → readRow (length ns) (fieldsLine fs ++ s) ≡ value (record { found = ns; rest = s })
+unfolding readRow
+row-reads fs ns s so = rw (fields-read fs ns s so, numbers-read fs ns so)
+
+-- the text s is a line that spells a row of k numbers, and then what is left
+pub record RowLine (k : ℕ) (s : Text) (r : Read (List ℕ)) : Type 0 where
+  pub fields : List Text
+  pub text : s ≡ fieldsLine fields ++ r .rest
+  pub spells : FieldsSpell fields (r .found)
+  pub long : length (r .found) ≡ k
+
+-- what reads as a row is such a line
+pub row-is : (k : ℕ) (s : Text) (r : Read (List ℕ)) → readRow k s ≡ value r → RowLine k s r
 unfolding readRow
 row-is k s r e =
     let fs = stepped (readFields k s) _ r e in
     let ns = stepped (numbers (fs .from .found)) _ r (fs .on) in
     let is : _≡_ {A = Read (List ℕ)} (record { found = ns .from; rest = fs .from .rest }) r = value-is (ns .on) in
-    subst (λ (y : Read (List ℕ)). Begins k s (y .found) (y .rest)) is (fields-are k s (fs .from) (ns .from) (fs .step) (ns .step))
+    let line : Begins k s (fs .from) = fields-are k s (fs .from) (fs .step) in
+    let so : FieldsSpell (fs .from .found) (ns .from) = numbers-are (fs .from .found) (ns .from) (ns .step) in
+    subst (RowLine k s) is (record { fields = fs .from .found; text = line .text; spells = so; long = omega (arith, spell-facts (fs .from .found) (ns .from) so .long, line .long) })
 
--- ---- its length: of each number its digits and one byte
+-- the digits that are written spell a row
+pub row-spells : (ns : List ℕ) → Fits ns → FieldsSpell (map decimal ns) ns
+unfolding FieldsSpell
+row-spells [] fits = tt
+row-spells (n ∷ ns) fits = (decimal-spells n (fits 0), row-spells ns (λ i. fits (suc i)))
 
-pub row-length : (ns : List ℕ) → length (writeRow ns) ≡ sumBelow (λ i. length (decimal (getD ns i 0)) + 1) (length ns)
-unfolding writeRow writeNumber sumBelow
-row-length [] = refl
-row-length (n ∷ ns) =
+-- and make its line
+pub row-line : (ns : List ℕ) → writeRow ns ≡ fieldsLine (map decimal ns)
+unfolding writeRow writeNumber fieldsLine
+row-line [] = refl
+row-line (n ∷ ns) =
     let c : ℕ = endBefore (length ns) in
-    omega (arith, length-append (decimal n ++ (c ∷ [])) (writeRow ns), length-append (decimal n) (c ∷ []), row-length ns, sum-head (λ i. length (decimal (getD (n ∷ ns) i 0)) + 1) (length ns))
+    rw (length-map ns decimal) (append-assoc (decimal n) (c ∷ []) (writeRow ns) ∙ ap (λ (l : Text). decimal n ++ (c ∷ l)) (row-line ns))
 
+-- ---- its length: at most ten digits a number, and the byte that ends it
+
+line-room : (fs : List Text) → Each (λ f. length f ≤ MOST_DIGITS) fs → length (fieldsLine fs) ≤ 11 * length fs
+unfolding fieldsLine
+line-room [] each = omega arith
+line-room (f ∷ fs) each =
+    let c : ℕ = endBefore (length fs) in
+    omega (arith, length-append f (c ∷ fieldsLine fs), each .0, line-room fs (each .1))
+
+pub line-few : (fs : List Text) (ns : List ℕ) → FieldsSpell fs ns → length (fieldsLine fs) ≤ 11 * length ns
+line-few fs ns so = let known : SpellFacts fs ns = spell-facts fs ns so in omega (arith, line-room fs (known .few), known .long)
+
+-- what is written has at most ten digits a number also where that does not fit 32 bits
 pub row-few : (ns : List ℕ) → length (writeRow ns) ≤ 11 * length ns
-row-few ns =
-    let bytes : ℕ → ℕ = λ i. length (decimal (getD ns i 0)) + 1 in
-    omega (arith, row-length ns, sum-mono bytes (λ _. 11) (length ns) (λ i _. omega (arith, digits-few (getD ns i 0))), sum-const 11 (length ns))
+row-few ns = omega (arith, ap length (row-line ns), line-room (map decimal ns) (few ns), length-map ns decimal)
+  where
+    few : (ns : List ℕ) → Each (λ f. length f ≤ MOST_DIGITS) (map decimal ns)
+    few [] = tt
+    few (n ∷ ns) = (digits-few n, few ns)
 
 -- ---- lines of rows
 
@@ -161,51 +221,101 @@ unfolding readRows
 rows-none zero k = refl
 rows-none (suc most) k = refl
 
-pub rows-more : (most k : ℕ) (s : Text) → 0 < length s → readRows (suc most) k s ≡ (readRow k s >>= λ r. readRows most k (r .rest) >>= λ rs. value (r .found ∷ rs))
+rows-next : (most k : ℕ) (s : Text) → 0 < length s → readRows (suc most) k s ≡ (readRow k s >>= λ r. readRows most k (r .rest) >>= λ rs. value (r .found ∷ rs))
 unfolding readRows
-rows-more most k [] some = absurd (omega arith)
-rows-more most k (b ∷ s) some = refl
+rows-next most k [] some = absurd (omega arith)
+rows-next most k (b ∷ s) some = refl
 
--- the line of a row is no empty text
-row-begins : (ns : List ℕ) (s : Text) → 1 ≤ length ns → 0 < length (writeRow ns ++ s)
-unfolding writeRow writeNumber
-row-begins [] s some = absurd (omega arith)
-row-begins (n ∷ ns) s some =
-    let c : ℕ = endBefore (length ns) in
-    omega (arith, length-append (decimal n ++ (c ∷ []) ++ writeRow ns) s, length-append (decimal n ++ (c ∷ [])) (writeRow ns), length-append (decimal n) (c ∷ []))
+-- lines of fields
+unfoldable pub fieldsLines : List (List Text) → Text
+fieldsLines [] = []
+fieldsLines (fs ∷ fss) = fieldsLine fs ++ fieldsLines fss
 
--- rows that are written read back
-pub rows-back : (most k : ℕ) (rows : List (List ℕ)) → 1 ≤ k → length rows ≤ most → Each (Figures k) rows → readRows most k (writeRows rows) ≡ value rows
-unfolding writeRows
-rows-back most k [] some few each = rows-none most k
-rows-back zero k (r ∷ rs) some few each = absurd (omega arith)
-rows-back (suc most) k (r ∷ rs) some few each =
-    let row : readRow k (writeRow r ++ writeRows rs) ≡ value (record { found = r; rest = writeRows rs })
-    = rw (← each .0 .long) (row-back r (writeRows rs) (each .0 .fits)) in
-    rows-more most k (writeRow r ++ writeRows rs) (row-begins r (writeRows rs) (omega (arith, each .0 .long))) ∙ rw (row, rows-back most k rs some (omega arith) (each .1))
+-- each line spells its row of k numbers
+unfoldable pub LinesSpell : ℕ → List (List Text) → List (List ℕ) → Type 0
+LinesSpell k [] [] = Unit {0}
+LinesSpell k [] (r ∷ rows) = ⊥
+LinesSpell k (fs ∷ fss) [] = ⊥
+LinesSpell k (fs ∷ fss) (r ∷ rows) = FieldsSpell fs r × (length r ≡ k) × LinesSpell k fss rows
 
--- the text s is the lines of at most so many rows of k numbers
+-- a line of fields is no empty text
+line-begins : (fs : List Text) (s : Text) → 1 ≤ length fs → 0 < length (fieldsLine fs ++ s)
+unfolding fieldsLine
+line-begins [] s some = absurd (omega arith)
+line-begins (f ∷ fs) s some =
+    let c : ℕ = endBefore (length fs) in
+    omega (arith, length-append (f ++ (c ∷ fieldsLine fs)) s, length-append f (c ∷ fieldsLine fs))
+
+-- lines that spell rows read as the rows
+pub rows-read : (most k : ℕ) (fss : List (List Text)) (rows : List (List ℕ)) → 1 ≤ k → length rows ≤ most → LinesSpell k fss rows → readRows most k (fieldsLines fss) ≡ value rows
+unfolding fieldsLines LinesSpell
+rows-read most k [] [] some few so = rows-none most k
+rows-read most k [] (r ∷ rows) some few so = absurd so
+rows-read most k (fs ∷ fss) [] some few so = absurd so
+rows-read zero k (fs ∷ fss) (r ∷ rows) some few so = absurd (omega arith)
+rows-read (suc most) k (fs ∷ fss) (r ∷ rows) some few so =
+    let row : readRow k (fieldsLine fs ++ fieldsLines fss) ≡ value (record { found = r; rest = fieldsLines fss })
+    = rw (← so .1) (row-reads fs r (fieldsLines fss) (so .0)) in
+    rows-next most k (fieldsLine fs ++ fieldsLines fss) (line-begins fs (fieldsLines fss) (omega (arith, so .1, spell-facts fs r (so .0) .long))) ∙ rw (row, rows-read most k fss rows some (omega arith) (so .2))
+
+-- the digits that are written spell rows
+pub rows-spell : (k : ℕ) (rows : List (List ℕ)) → Each (Figures k) rows → LinesSpell k (map (map decimal) rows) rows
+unfolding LinesSpell
+rows-spell k [] each = tt
+rows-spell k (r ∷ rows) each = (row-spells r (each .0 .fits), each .0 .long, rows-spell k rows (each .1))
+
+-- and make their lines
+pub rows-lines : (rows : List (List ℕ)) → writeRows rows ≡ fieldsLines (map (map decimal) rows)
+unfolding writeRows fieldsLines
+rows-lines [] = refl
+rows-lines (r ∷ rows) = rw (row-line r, rows-lines rows)
+
+-- rows that lines spell are rows of k numbers of 32 bits
+pub spell-figures : (k : ℕ) (fss : List (List Text)) (rows : List (List ℕ)) → LinesSpell k fss rows → Each (Figures k) rows
+unfolding LinesSpell
+spell-figures k [] [] so = tt
+spell-figures k [] (r ∷ rows) so = absurd so
+spell-figures k (fs ∷ fss) [] so = absurd so
+spell-figures k (fs ∷ fss) (r ∷ rows) so = (record { long = so .1; fits = spell-facts fs r (so .0) .fits }, spell-figures k fss rows (so .2))
+
+pub lines-few : (k : ℕ) (fss : List (List Text)) (rows : List (List ℕ)) → LinesSpell k fss rows → length (fieldsLines fss) ≤ 11 * k * length rows
+unfolding LinesSpell fieldsLines
+lines-few k [] [] so = omega arith
+lines-few k [] (r ∷ rows) so = absurd so
+lines-few k (fs ∷ fss) [] so = absurd so
+lines-few k (fs ∷ fss) (r ∷ rows) so =
+    let more : 11 * k * suc (length rows) ≡ 11 * k * length rows + 11 * k = mul-suc (11 * k) (length rows) in
+    let line : length (fieldsLine fs) ≤ 11 * k = omega (arith, line-few fs r (so .0), so .1) in
+    omega (arith, length-append (fieldsLine fs) (fieldsLines fss), lines-few k fss rows (so .2))
+
+-- the text s is lines that spell at most so many rows of k numbers
 pub record Consists (most k : ℕ) (s : Text) (rows : List (List ℕ)) : Type 0 where
-  pub text : s ≡ writeRows rows
-  pub each : Each (Figures k) rows
+  pub fields : List (List Text)
+  pub text : s ≡ fieldsLines fields
+  pub spells : LinesSpell k fields rows
   pub few : length rows ≤ most
 
--- what reads as rows is their lines
+no-rows : (most k : ℕ) (rows : List (List ℕ)) → value [] ≡ value rows → Consists most k [] rows
+unfolding fieldsLines LinesSpell
+no-rows most k rows e = let none : [] ≡ rows = value-is e in subst (Consists most k []) none (record { fields = []; text = refl; spells = tt; few = omega arith })
+
+-- what reads as rows is such lines
 pub rows-are : (most k : ℕ) (s : Text) (rows : List (List ℕ)) → readRows most k s ≡ value rows → Consists most k s rows
-unfolding readRows writeRows
-rows-are zero k [] rows e = let none : [] ≡ rows = value-is e in rw (← none) (record { text = refl; each = tt; few = omega arith })
+unfolding readRows readRow fieldsLines LinesSpell
+rows-are zero k [] rows e = no-rows zero k rows e
 rows-are zero k (b ∷ s) rows e = absurd (never 15 rows e)
-rows-are (suc most) k [] rows e = let none : [] ≡ rows = value-is e in rw (← none) (record { text = refl; each = tt; few = omega arith })
+rows-are (suc most) k [] rows e = no-rows (suc most) k rows e
 rows-are (suc most) k (b ∷ s) rows e =
     let r = stepped (readRow k (b ∷ s)) _ rows e in
     let rs = stepped (readRows most k (r .from .rest)) _ rows (r .on) in
     let is : r .from .found ∷ rs .from ≡ rows = value-is (rs .on) in
-    let first : Begins k (b ∷ s) (r .from .found) (r .from .rest) = row-is k (b ∷ s) (r .from) (r .step) in
+    let line : RowLine k (b ∷ s) (r .from) = row-is k (b ∷ s) (r .from) (r .step) in
     let others : Consists most k (r .from .rest) (rs .from) = rows-are most k (r .from .rest) (rs .from) (rs .step) in
-    subst (λ (l : List (List ℕ)). Consists (suc most) k (b ∷ s) l) is
+    subst (Consists (suc most) k (b ∷ s)) is
     (record {
-      text = first .text ∙ ap (λ (l : Text). writeRow (r .from .found) ++ l) (others .text);
-      each = (first .row, others .each);
+      fields = line .fields ∷ others .fields;
+      text = line .text ∙ ap (λ (l : Text). fieldsLine (line .fields) ++ l) (others .text);
+      spells = (line .spells, line .long, others .spells);
       few = omega (arith, others .few);
     })
 

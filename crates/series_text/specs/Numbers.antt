@@ -1,13 +1,18 @@
--- How a number is written: digits only, no leading zero, at most 4,294,967,295.
+-- A number in a text: one to ten digits, leading zeros allowed, at most 4,294,967,295. What is written has no leading zero.
 use Prim.Native.Nat.{ℕ, zero, suc, _+_, _-_, _*_, _/_, _%_}
-use mathlib.Core.Bool.{Bool, true, false, not, _&&_, cond}
+use mathlib.Core.Bool.{Bool, true, not, _&&_, cond}
 use mathlib.Core.List.{List, [], _∷_, _++_}
-use lib.Dec.{eqb, ltb, leb}
+use lib.Dec.{ltb, leb}
+use lib.ListN.{length}
 use Rattle.series.specs.Results.{Result, refuse}
 
 -- the largest number
 abbrev pub LARGEST : ℕ
 LARGEST = 4294967295
+
+-- the most digits of a number, leading zeros among them
+abbrev pub MOST_DIGITS : ℕ
+MOST_DIGITS = 10
 
 -- the byte is a digit
 unfoldable pub digit : ℕ → Bool
@@ -18,11 +23,9 @@ unfoldable pub digits : List ℕ → Bool
 digits [] = true
 digits (b ∷ f) = digit b && digits f
 
--- how digits may spell a number: at least one, and no zero in front of others
+-- how digits may spell a number: at least one, at most ten
 unfoldable pub spelled : List ℕ → Bool
-spelled [] = false
-spelled (b ∷ []) = true
-spelled (b ∷ c ∷ f) = not (eqb b 48)
+spelled f = leb 1 (length f) && leb (length f) MOST_DIGITS
 
 -- the number whose digits are those of n followed by f
 unfoldable pub amountFrom : ℕ → List ℕ → ℕ

@@ -2,7 +2,7 @@
 use Prim.Native.Nat.{ℕ, _+_, _≤_, _<_}
 use mathlib.Core.Path.{_≡_}
 use mathlib.Core.Bool.{Bool, true, false}
-use mathlib.Core.List.{List, [], _∷_, _++_}
+use mathlib.Core.List.{List, [], _∷_}
 use lib.ListN.{length, take, drop}
 use lib.Seq.{slice}
 use Rattle.series.specs.Results.{Result, refused, value, _>>=_}
@@ -10,13 +10,13 @@ use Rattle.series.specs.Answers.{numberOf}
 use Rattle.series.specs.declared.Method.{Method}
 use Rattle.series.specs.declared.Terms.{Terms}
 use Rattle.series_text.specs.Numbers.{number}
-use Rattle.series_text.specs.Fields.{Text, Read, fieldBy, readFields}
-use Rattle.series_text.specs.Rows.{numbers, rowsOf}
+use Rattle.series_text.specs.Fields.{Text, COMMA, Read, fieldBy}
+use Rattle.series_text.specs.Rows.{readRow, rowsOf}
 use Rattle.series_text.specs.Text.{MOST_LINES}
 use Rattle.series_text.specs.declared.number.Field.{Field}
 use Rattle.series_text.specs.declared.field.Line.{Line}
 use Rattle.series_text.specs.declared.field.Found.{Found}
-use Rattle.series_text.specs.declared.row.Fields.{Fields}
+use Rattle.series_text.specs.declared.row.RowEnd.{RowEnd}
 use Rattle.series_text.specs.declared.names.Heading.{Heading}
 use Rattle.series_text.specs.declared.names.Names.{Names}
 use Rattle.series_text.specs.declared.letters.Named.{Named}
@@ -50,17 +50,10 @@ abbrev pub foundWithin : ℕ → ℕ → Found → Type 0
 foundWithin at n (Found.At e) = (at ≤ e) × (e < n)
 foundWithin at n Found.Missing = Unit {0}
 
--- a line of k fields, and of these whether they are numbers
-unfoldable pub fieldsThenNumbers : ℕ → Text → Result (Result (Read (List ℕ)))
-fieldsThenNumbers k s = do
-  fs ← readFields k s
-  value (numbers (fs .found) >>= (λ ns. value (record { found = ns; rest = fs .rest })))
-
--- the numbers of a line, with the text s from an index on; fields that are no numbers; or no such fields
-abbrev pub fieldsMean : Text → List ℕ → Fields → Result (Result (Read (List ℕ)))
-fieldsMean s row (Fields.Numbers next) = value (value (record { found = row; rest = drop next s }))
-fieldsMean s row Fields.Malformed = value (refused 13)
-fieldsMean s row Fields.Missing = refused 13
+-- a row of numbers, with the text s from an index on
+abbrev pub rowMeans : Text → List ℕ → RowEnd → Result (Read (List ℕ))
+rowMeans s row (RowEnd.At next) = value (record { found = row; rest = drop next s })
+rowMeans s row RowEnd.Malformed = refused 13
 
 -- the fields are there
 abbrev pub foundFields : {A : Type 0} → Result A → Bool
@@ -76,6 +69,13 @@ namesMean s Names.Unknown = refused 12
 abbrev pub namedMeans : Named → Result Method
 namedMeans (Named.Method m) = value m
 namedMeans Named.Unknown = refused 14
+
+-- what is asked of line 2 at an index of s where it is refused: a comma ends its first field, and no two numbers follow
+pub record TermsMalformed (s : Text) (at comma : ℕ) : Type 0 where
+  pub after : at ≤ comma
+  pub within : comma < length s
+  pub first : value (record { found = slice at comma s; rest = drop (comma + 1) s }) ≡ fieldBy COMMA (drop at s)
+  pub numbers : refused 13 ≡ readRow 2 (drop (comma + 1) s)
 
 -- the values of line 2, with the text s from an index on
 abbrev pub termsMeans : Text → TermsLine → Result (Read Terms)

@@ -6,7 +6,8 @@ use crate::letters::method_by;
 use crate::names::Heading;
 use crate::names::Names;
 use crate::names::read_names;
-use crate::row::Fields;
+use crate::row::RowEnd;
+use crate::row::has_fields;
 use crate::row::read_row;
 use series::Contracts;
 use series::Refusal;
@@ -15,10 +16,12 @@ ghost use mathlib.Core.Path.{_≡_};
 ghost use Prim.Native.Nat.{_≤_};
 ghost use lib.ListN.{length, drop};
 ghost use lib.Seq.{slice};
+ghost use Rattle.series.specs.Results.{refused};
+ghost use Rattle.series.specs.Answers.{numberOf};
 ghost use Rattle.series_text.specs.Letters.{methodOf};
 ghost use Rattle.series_text.specs.Rows.{readRows};
 ghost use Rattle.series_text.specs.Text.{readTerms, readHead, MOST_LINES};
-ghost use Rattle.series_text.specs.Parts.{namedMeans, termsMeans, positionsMean, positionsWithin};
+ghost use Rattle.series_text.specs.Parts.{namedMeans, TermsMalformed, termsMeans, positionsMean, positionsWithin};
 
 // The values of line 2, and the index after it.
 pub enum TermsLine {
@@ -44,6 +47,20 @@ fn read_method(text: &[u8], from: usize, to: usize) -> Named
     method_by(text[from])
 }
 
+// The refusal of a line 2 whose numbers are malformed: its fields are counted before the method is looked at.
+fn refuse_terms(text: &[u8], at: usize, comma: usize) -> Refusal
+    requires { ⌜ TermsMalformed (now text) at comma ⌝ }
+    ensures { λ r. ⌜ refused (numberOf r) ≡ readTerms (drop at (now (text .entry))) ⌝ }
+{
+    if !has_fields(text, comma + 1, 2) {
+        return Refusal::Malformed;
+    }
+    let Named::Method(_) = read_method(text, at, comma) else {
+        return Refusal::UnknownMethod;
+    };
+    Refusal::Malformed
+}
+
 // Line 2 at an index: its fields first, then the method, then the numbers.
 fn read_terms(text: &[u8], at: usize) -> TermsLine
     ensures { λ r. ⌜ termsMeans (now (text .entry)) r ≡ readTerms (drop at (now (text .entry))) ⌝ }
@@ -52,15 +69,11 @@ fn read_terms(text: &[u8], at: usize) -> TermsLine
         return TermsLine::Refused(Refusal::Malformed);
     };
     let mut values = [0u32; 2];
-    let fields = read_row(text, comma + 1, &mut values);
-    if let Fields::Missing = fields {
-        return TermsLine::Refused(Refusal::Malformed);
-    }
+    let RowEnd::At(next) = read_row(text, comma + 1, &mut values) else {
+        return TermsLine::Refused(refuse_terms(text, at, comma));
+    };
     let Named::Method(method) = read_method(text, at, comma) else {
         return TermsLine::Refused(Refusal::UnknownMethod);
-    };
-    let Fields::Numbers(next) = fields else {
-        return TermsLine::Refused(Refusal::Malformed);
     };
     TermsLine::Terms(
         Terms {
@@ -111,7 +124,7 @@ pub fn read_positions(
         if n >= 1024 {
             return Positions::Refused(Refusal::TooManyLines);
         }
-        let Fields::Numbers(next) = read_row(text, at, &mut row) else {
+        let RowEnd::At(next) = read_row(text, at, &mut row) else {
             return Positions::Refused(Refusal::Malformed);
         };
         accounts[n] = row[0];

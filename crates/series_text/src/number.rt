@@ -1,10 +1,8 @@
 // A number as a field of a text.
 ghost use mathlib.Core.Path.{_≡_};
 ghost use mathlib.Core.Bool.{true};
-ghost use Prim.Native.Nat.{_≤_};
-ghost use lib.ListN.{length, drop};
-ghost use lib.Seq.{slice};
-ghost use Rattle.series_text.specs.Numbers.{spelled};
+ghost use lib.ListN.{drop};
+ghost use Rattle.series_text.specs.Numbers.{digit};
 ghost use Rattle.series_text.specs.Fields.{ends};
 ghost use Rattle.series_text.specs.Parts.{fieldMeans, numberBy};
 
@@ -14,19 +12,14 @@ pub enum Field {
     Malformed,
 }
 
-// How digits may spell a number: at least one of them, and no zero in front of others.
-fn is_spelled(text: &[u8], from: usize, to: usize) -> bool
-    requires { ⌜ (from ≤ to) × (to ≤ length (now text)) ⌝ }
-    ensures { λ r. ⌜ r ≡ spelled (slice from to (now (text .entry))) ⌝ }
+// Whether a byte is a digit.
+fn is_digit(byte: u8) -> bool
+    ensures { λ r. ⌜ r ≡ digit byte ⌝ }
 {
-    let digits = to - from;
-    if digits == 0 {
+    if byte < b'0' {
         return false;
     }
-    if digits == 1 {
-        return true;
-    }
-    text[from] != b'0'
+    byte <= b'9'
 }
 
 // The number in the field at an index, where the byte `end`, a comma or byte 10, ends the field.
@@ -38,22 +31,24 @@ pub fn read_number(text: &[u8], at: usize, end: u8) -> Field
     let mut i = at;
     while i < text.len() {
         let byte = text[i];
-        if byte < b'0' {
+        if !is_digit(byte) {
             if byte != end {
                 return Field::Malformed;
             }
-            if is_spelled(text, at, i) {
-                return Field::Number(n as u32, i + 1);
+            if i == at {
+                return Field::Malformed;
             }
-            return Field::Malformed;
+            // Ten digits can pass 32 bits.
+            if n > 4294967295 {
+                return Field::Malformed;
+            }
+            return Field::Number(n as u32, i + 1);
         }
-        if byte > b'9' {
+        // An eleventh digit, whatever the number.
+        if i - at >= 10 {
             return Field::Malformed;
         }
         n = n * 10 + (byte - b'0') as u64;
-        if n > 4294967295 {
-            return Field::Malformed;
-        }
         i += 1;
     }
     Field::Malformed

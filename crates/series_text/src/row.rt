@@ -6,19 +6,18 @@ use crate::number::Field;
 use crate::number::read_number;
 ghost use mathlib.Core.Path.{_≡_};
 ghost use lib.ListN.{length, drop};
-ghost use Rattle.series.specs.Results.{refused};
 ghost use Rattle.series_text.specs.Fields.{readFields};
-ghost use Rattle.series_text.specs.Parts.{fieldsMean, fieldsThenNumbers, foundFields};
+ghost use Rattle.series_text.specs.Rows.{readRow};
+ghost use Rattle.series_text.specs.Parts.{rowMeans, foundFields};
 
-// What reading a row finds: its numbers, with the index after it; as many fields that are not all numbers; or not as many fields.
-pub enum Fields {
-    Numbers(usize),
+// The index after a row of numbers, where there is one.
+pub enum RowEnd {
+    At(usize),
     Malformed,
-    Missing,
 }
 
 // Whether a line of so many fields stands at an index.
-fn has_fields(text: &[u8], at: usize, fields: usize) -> bool
+pub fn has_fields(text: &[u8], at: usize, fields: usize) -> bool
     ensures { λ r. ⌜ r ≡ foundFields (readFields fields (drop at (now (text .entry)))) ⌝ }
 {
     let mut next = at;
@@ -34,32 +33,26 @@ fn has_fields(text: &[u8], at: usize, fields: usize) -> bool
 }
 
 // Reads a row of as many numbers as the lent list has.
-pub fn read_row(text: &[u8], at: usize, row: &mut [u32]) -> Fields
-    ensures { λ r. ⌜ fieldsMean (now (text .entry)) (now (row .exit)) r ≡ fieldsThenNumbers (length (now (row .entry))) (drop at (now (text .entry))) ⌝ }
+pub fn read_row(text: &[u8], at: usize, row: &mut [u32]) -> RowEnd
+    ensures { λ r. ⌜ rowMeans (now (text .entry)) (now (row .exit)) r ≡ readRow (length (now (row .entry))) (drop at (now (text .entry))) ⌝ }
 {
     if row.len() == 0 {
-        return Fields::Numbers(at);
+        return RowEnd::At(at);
     }
     let last = row.len() - 1;
     let mut next = at;
     let mut i = 0;
     while i < last {
         let Field::Number(number, after) = read_number(text, next, b',') else {
-            if has_fields(text, next, row.len() - i) {
-                return Fields::Malformed;
-            }
-            return Fields::Missing;
+            return RowEnd::Malformed;
         };
         row[i] = number;
         next = after;
         i += 1;
     }
     let Field::Number(number, after) = read_number(text, next, b'\n') else {
-        if has_fields(text, next, 1) {
-            return Fields::Malformed;
-        }
-        return Fields::Missing;
+        return RowEnd::Malformed;
     };
     row[last] = number;
-    Fields::Numbers(after)
+    RowEnd::At(after)
 }

@@ -107,11 +107,27 @@ fn texts() {
     reread(b"method,exercised,draw\r\nW,1,1\naccount,short\n1,1\n");
     reread(b"method,exercised,draw\nW,1,1\naccount,short");
     reread(b"method,exercised,draw\nX,1\naccount,short\n");
-    reread(b"method,exercised,draw\nX,01,1\naccount,short\n");
-    reread(b"method,exercised,draw\nW,01,1\nshort,account\n");
+    reread(b"method,exercised,draw\nX,x1,1\naccount,short\n");
+    reread(b"method,exercised,draw\nW,x1,1\nshort,account\n");
     reread(b"method,exercised,draw\nW,1,1\naccount,short\n1,1\n2,4294967296\n");
     reread(b"method,exercised,draw\nW,1,1\naccount,short\n1,1\n2,2");
     reread(b"method,exercised,draw\nW,1,1\naccount,short\n1,1\n\n");
+}
+
+// Leading zeros in every field; eleven digits, and ten that pass 32 bits, in each.
+fn spellings() {
+    reread(b"method,exercised,draw\nL,0013,0000004855\naccount,short\n0001,5\n02,0000000008\n");
+    reread(
+        b"method,exercised,draw\nW,0000000000,4294967295\naccount,short\n0000000000,0\n1,0000000001\n01,4294967295\n",
+    );
+    reread(b"method,exercised,draw\nW,00000000001,1\naccount,short\n1,1\n");
+    reread(b"method,exercised,draw\nW,1,00000000001\naccount,short\n1,1\n");
+    reread(b"method,exercised,draw\nW,1,1\naccount,short\n00000000001,1\n");
+    reread(b"method,exercised,draw\nW,1,1\naccount,short\n1,00000000001\n");
+    reread(b"method,exercised,draw\nW,4294967296,1\naccount,short\n1,1\n");
+    reread(b"method,exercised,draw\nW,1,9999999999\naccount,short\n1,1\n");
+    reread(b"method,exercised,draw\nW,1,1\naccount,short\n4294967297,1\n");
+    reread(b"method,exercised,draw\nW,1,1\naccount,short\n1,8589934592\n");
 }
 
 // The byte at an index of a text that is a head and then lines `1,1`.
@@ -174,6 +190,7 @@ fn writings() {
 
 fn main() {
     texts();
+    spellings();
     limits();
     writings();
 }

@@ -182,6 +182,85 @@ fn rate(bytes: usize, nanoseconds: f64) -> String {
     format!("{:.0} MB/s", bytes as f64 / nanoseconds * 1e3)
 }
 
+fn text_row(call: &str, positions: usize, bytes: usize, library: f64, plain: f64, note: &str) {
+    println!(
+        "{:<9}{:>10}{:>9}{:>12}{:>12}{:>12}{:>12}{:>12.2}{note}",
+        call,
+        positions,
+        bytes,
+        time(library),
+        time(plain),
+        rate(bytes, library),
+        rate(bytes, plain),
+        library / plain
+    );
+}
+
+fn reading(text: &[u8], positions: usize, note: &str) {
+    let (mut a, mut s) = (vec![0; positions], vec![0; positions]);
+    let (mut a2, mut s2) = (a.clone(), s.clone());
+    let mut call_library = || {
+        let (mut method, mut exercised, mut draw, mut found) = (0, 0, 0, 0);
+        let number = calls::read(black_box(text), &mut a, &mut s, &mut method, &mut exercised, &mut draw, &mut found);
+        assert_eq!(black_box((number, found)), (0, positions));
+        black_box((&a, &s));
+    };
+    let mut call_plain = || {
+        black_box(plain::read(black_box(text), &mut a2, &mut s2).expect("a series"));
+        black_box((&a2, &s2));
+    };
+    let [library, best] = medians([&mut call_library, &mut call_plain]);
+    text_row("read", positions, text.len(), library, best, note);
+}
+
+fn writing(list: &Series, length: usize) {
+    let Series { accounts, shorts } = list;
+    let (mut out, mut out2) = (vec![0; length], vec![0; length]);
+    let mut call_library = || {
+        let mut written = 0;
+        let number = calls::write(b'W', 500, 77, black_box(accounts), shorts, &mut out, &mut written);
+        assert_eq!(black_box((number, written)), (0, length));
+        black_box(&out);
+    };
+    let mut call_plain = || {
+        black_box(plain::write(b'W', 500, 77, black_box(accounts), shorts, &mut out2).expect("a text"));
+        black_box(&out2);
+    };
+    let [library, best] = medians([&mut call_library, &mut call_plain]);
+    text_row("write", accounts.len(), length, library, best, "");
+}
+
+fn responding(text: &[u8], positions: usize) {
+    let mut printed = vec![0; 32_768];
+    let library = median(|| {
+        let mut written = 0;
+        assert_eq!(black_box(calls::respond(black_box(text), &mut printed, &mut written)), 0);
+        black_box(&printed);
+    });
+    let slow = median(|| {
+        black_box(reference::printed(black_box(text)));
+    });
+    text_row("respond", positions, text.len(), library, slow, "   (plain here is the stepping version)");
+}
+
+// Accounts of ten digits, in the order of a list.
+fn long_accounts(positions: usize, random: &mut Random) -> Vec<u32> {
+    let mut account = 3_000_000_000u32;
+    let next = |_| {
+        account += random.between(1, 1_000_000) as u32;
+        account
+    };
+    (0..positions).map(next).collect()
+}
+
+fn few_contracts(positions: usize, random: &mut Random) -> Vec<u32> {
+    (0..positions).map(|_| random.spread(9_000) as u32).collect()
+}
+
+fn text_of(list: &Series) -> Vec<u8> {
+    reference::write(b'W', 500, 77, &list.accounts, &list.shorts, usize::MAX).expect("a text")
+}
+
 fn texts() {
     println!();
     println!("Texts: bytes read or written in a second. The lists or the text are not cleared first.");
@@ -191,77 +270,18 @@ fn texts() {
     );
     for positions in [10, 100, 1_024] {
         let mut random = Random::new(0xBE7C_5000);
-        let mut account = 3_000_000_000u32;
-        let accounts: Vec<u32> = (0..positions)
-            .map(|_| {
-                account += random.between(1, 1_000_000) as u32;
-                account
-            })
-            .collect();
-        let shorts: Vec<u32> = (0..positions).map(|_| random.spread(9_000) as u32).collect();
-        let text = reference::write(b'W', 500, 77, &accounts, &shorts, usize::MAX).expect("a text");
-        let (mut a, mut s) = (vec![0; positions], vec![0; positions]);
-        let (mut a2, mut s2) = (a.clone(), s.clone());
-        let mut call_library = || {
-            let (mut method, mut exercised, mut draw, mut found) = (0, 0, 0, 0);
-            let number =
-                calls::read(black_box(&text), &mut a, &mut s, &mut method, &mut exercised, &mut draw, &mut found);
-            assert_eq!(black_box((number, found)), (0, positions));
-            black_box((&a, &s));
-        };
-        let mut call_plain = || {
-            black_box(plain::read(black_box(&text), &mut a2, &mut s2).expect("a series"));
-            black_box((&a2, &s2));
-        };
-        let [library, best] = medians([&mut call_library, &mut call_plain]);
-        let show = |call: &str, bytes: usize, library: f64, best: f64| {
-            println!(
-                "{:<9}{:>10}{:>9}{:>12}{:>12}{:>12}{:>12}{:>12.2}",
-                call,
-                positions,
-                bytes,
-                time(library),
-                time(best),
-                rate(bytes, library),
-                rate(bytes, best),
-                library / best
-            );
-        };
-        show("read", text.len(), library, best);
-        let (mut out, mut out2) = (vec![0; text.len()], vec![0; text.len()]);
-        let mut call_library = || {
-            let mut written = 0;
-            let number = calls::write(b'W', 500, 77, black_box(&accounts), &shorts, &mut out, &mut written);
-            assert_eq!(black_box((number, written)), (0, text.len()));
-            black_box(&out);
-        };
-        let mut call_plain = || {
-            black_box(plain::write(b'W', 500, 77, black_box(&accounts), &shorts, &mut out2).expect("a text"));
-            black_box(&out2);
-        };
-        let [library, best] = medians([&mut call_library, &mut call_plain]);
-        show("write", text.len(), library, best);
-        let mut printed = vec![0; 32_768];
-        let library = median(|| {
-            let mut written = 0;
-            assert_eq!(black_box(calls::respond(black_box(&text), &mut printed, &mut written)), 0);
-            black_box(&printed);
-        });
-        let slow = median(|| {
-            black_box(reference::printed(black_box(&text)));
-        });
-        println!(
-            "{:<9}{:>10}{:>9}{:>12}{:>12}{:>12}{:>12}{:>12.2}   (plain here is the stepping version)",
-            "respond",
-            positions,
-            text.len(),
-            time(library),
-            time(slow),
-            rate(text.len(), library),
-            rate(text.len(), slow),
-            library / slow
-        );
+        let accounts = long_accounts(positions, &mut random);
+        let list = Series { accounts, shorts: few_contracts(positions, &mut random) };
+        let text = text_of(&list);
+        reading(&text, positions, "");
+        writing(&list, text.len());
+        responding(&text, positions);
     }
+    let shorts = few_contracts(1_024, &mut Random::new(0xBE7C_5000));
+    let text = text_of(&Series { accounts: make::upward(1_024), shorts });
+    let four_digits = make::spelled(&text, |i, digits| if make::field(i) == 2 { 4 } else { digits });
+    reading(&four_digits, 1_024, "   (accounts 0001 to 1024)");
+    reading(&make::spelled(&text, |_, _| 10), 1_024, "   (every number in ten digits)");
 }
 
 fn whole_runs() {

@@ -4,6 +4,9 @@ use crate::random::Random;
 
 pub const METHODS: [u8; 3] = *b"WPL";
 
+/// The fields of a text that are numbers: S, the draw, an account, shorts.
+pub const FIELDS: usize = 4;
+
 #[derive(Clone, Debug)]
 pub struct Series {
     pub accounts: Vec<u32>,
@@ -212,7 +215,69 @@ pub fn text(random: &mut Random, lines: usize) -> Vec<u8> {
     } else {
         terms(random, method, lines, total)
     };
-    reference::write(method, s, d, &list.accounts, &list.shorts, usize::MAX).expect("at most 1,024 lines")
+    let text = reference::write(method, s, d, &list.accounts, &list.shorts, usize::MAX).expect("at most 1,024 lines");
+    with_zeros(random, &text)
+}
+
+/// The text with zeros in front of none, some or all of its numbers, none longer than ten digits.
+fn with_zeros(random: &mut Random, text: &[u8]) -> Vec<u8> {
+    match random.below(8) {
+        0..=2 => text.to_vec(),
+        3 => spelled(text, |_, _| 10),
+        4 => {
+            let width = random.between(2, 9) as usize;
+            spelled(text, |_, _| width)
+        }
+        5 => {
+            let only = random.index(FIELDS);
+            spelled(text, |i, digits| if field(i) == only { random.between(2, 10) as usize } else { digits })
+        }
+        _ => spelled(text, |_, digits| random.between(digits as u64, 10) as usize),
+    }
+}
+
+/// The text with each number in at least `width` digits, by zeros in front; `width` is told the index of the number and
+/// how many digits it has.
+pub fn spelled(text: &[u8], mut width: impl FnMut(usize, usize) -> usize) -> Vec<u8> {
+    let mut out = Vec::new();
+    let mut done = 0;
+    for (i, (from, to)) in numbers(text).into_iter().enumerate() {
+        out.extend(&text[done..from]);
+        out.extend(padded(&text[from..to], width(i, to - from)));
+        done = to;
+    }
+    out.extend(&text[done..]);
+    out
+}
+
+fn padded(digits: &[u8], width: usize) -> Vec<u8> {
+    [&vec![b'0'; width.saturating_sub(digits.len())], digits].concat()
+}
+
+/// The field of a number by its index among the numbers of a text.
+pub fn field(index: usize) -> usize {
+    if index < 2 {
+        index
+    } else {
+        2 + index % 2
+    }
+}
+
+/// A text of one position with the number in the field; the numbers in the others are those of an allocation.
+pub fn in_field(field: usize, number: &str) -> Vec<u8> {
+    let mut fields = ["3", "5", "2", "7"];
+    fields[field] = number;
+    let [exercised, draw, account, short] = fields;
+    format!("method,exercised,draw\nW,{exercised},{draw}\naccount,short\n{account},{short}\n").into_bytes()
+}
+
+/// Whether each field of a text that reads has a number with leading zeros.
+pub fn leading_zeros(text: &[u8]) -> [bool; FIELDS] {
+    let mut found = [false; FIELDS];
+    for (i, (from, to)) in numbers(text).into_iter().enumerate() {
+        found[field(i)] |= to - from > 1 && text[from] == b'0';
+    }
+    found
 }
 
 /// How many positions a text gets: mostly few, at times as many as there may be.
@@ -235,7 +300,7 @@ fn line_starts(text: &[u8]) -> Vec<usize> {
 }
 
 /// The start and end of the numbers in a text.
-fn numbers(text: &[u8]) -> Vec<(usize, usize)> {
+pub fn numbers(text: &[u8]) -> Vec<(usize, usize)> {
     let mut found = Vec::new();
     let mut i = 0;
     while i < text.len() {
@@ -261,6 +326,36 @@ fn byte(random: &mut Random) -> u8 {
     }
 }
 
+/// What may stand in a text instead of a number.
+fn other_number(random: &mut Random, digits: &[u8]) -> Vec<u8> {
+    match random.below(11) {
+        0 => [b"0", digits].concat(),
+        1 => b"00".to_vec(),
+        2 => b"4294967295".to_vec(),
+        3 => b"4294967296".to_vec(),
+        4 => b"10000000000".to_vec(),
+        5 => b"18446744073709551617".to_vec(),
+        6 => vec![b'9'; random.between(11, 60) as usize],
+        7 => Vec::new(),
+        8 => padded(digits, random.pick(&[11, 11, 12, 20, 60])),
+        9 => random.between(1 << 32, 9_999_999_999).to_string().into_bytes(),
+        _ => [digits, b"0"].concat(),
+    }
+}
+
+/// Repeats a position line, its account in another spelling, where it has one of at most ten digits.
+fn repeat_account(random: &mut Random, text: &mut Vec<u8>, start: usize, end: usize) {
+    let line = &text[start..end];
+    let Some(&(0, to)) = numbers(line).first() else { return };
+    let zeros = line[..to - 1].iter().take_while(|&&b| b == b'0').count();
+    let widths: Vec<usize> = (to - zeros..=10).filter(|&width| width != to).collect();
+    if !widths.is_empty() {
+        let account = padded(&line[zeros..to], random.pick(&widths));
+        let again = [&account, &line[to..]].concat();
+        text.splice(end..end, again);
+    }
+}
+
 /// Damages a text in one way.
 pub fn damage(random: &mut Random, text: &mut Vec<u8>) {
     let length = text.len();
@@ -268,7 +363,7 @@ pub fn damage(random: &mut Random, text: &mut Vec<u8>) {
     let line = random.index(starts.len());
     let start = starts[line];
     let end = starts.get(line + 1).copied().unwrap_or(length);
-    match random.below(22) {
+    match random.below(23) {
         0..=2 if length > 0 => {
             let at = random.index(length);
             text[at] = byte(random);
@@ -305,17 +400,7 @@ pub fn damage(random: &mut Random, text: &mut Vec<u8>) {
             let places = numbers(text);
             if !places.is_empty() {
                 let (from, to) = random.pick(&places);
-                let new: Vec<u8> = match random.below(9) {
-                    0 => [b"0", &text[from..to]].concat(),
-                    1 => b"00".to_vec(),
-                    2 => b"4294967295".to_vec(),
-                    3 => b"4294967296".to_vec(),
-                    4 => b"10000000000".to_vec(),
-                    5 => b"18446744073709551617".to_vec(),
-                    6 => vec![b'9'; random.between(11, 60) as usize],
-                    7 => Vec::new(),
-                    _ => [&text[from..to], b"0"].concat(),
-                };
+                let new = other_number(random, &text[from..to]);
                 text.splice(from..to, new);
             }
         }
@@ -354,6 +439,7 @@ pub fn damage(random: &mut Random, text: &mut Vec<u8>) {
             let (a, b) = (starts[line.min(other)], starts[line.max(other)]);
             text[a..b].reverse();
         }
+        21 => repeat_account(random, text, start, end),
         _ => {
             // Another method, known or not.
             if starts.len() > 1 && starts[1] < length {

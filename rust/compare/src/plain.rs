@@ -343,24 +343,17 @@ fn lottery(shorts: &[u32], total: u32, exercised: u32, draw: u32, amounts: &mut 
 const NAMES_1: &[u8] = b"method,exercised,draw\n";
 const NAMES_3: &[u8] = b"account,short\n";
 
-/// A number from `at` up to the byte `end`; the place after that byte.
+/// A number from `at` up to the byte `end`, which stands after at most ten digits; the place after that byte.
 #[inline]
-fn number(text: &[u8], mut at: usize, end: u8) -> Option<(u32, usize)> {
-    let from = at;
+fn number(text: &[u8], at: usize, end: u8) -> Option<(u32, usize)> {
     let mut value = 0u64;
-    while let Some(&b) = text.get(at) {
+    for (to, &b) in (at..).zip(text[at..].iter().take(11)) {
         let digit = b.wrapping_sub(b'0');
         if digit > 9 {
-            if b != end || at == from || (text[from] == b'0' && at > from + 1) || value > u64::from(u32::MAX) {
-                return None;
-            }
-            return Some((value as u32, at + 1));
-        }
-        if at - from == 10 {
-            return None;
+            let good = b == end && to > at && value <= u64::from(u32::MAX);
+            return good.then_some((value as u32, to + 1));
         }
         value = value * 10 + u64::from(digit);
-        at += 1;
     }
     None
 }

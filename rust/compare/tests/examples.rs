@@ -26,7 +26,7 @@ fn shown_after(words: &str) -> String {
 
 #[test]
 fn every_example_prints_what_is_stored_and_shown() {
-    let names = ["wheel", "pro-rata", "lottery", "whole", "refused"];
+    let names = ["wheel", "pro-rata", "lottery", "leading-zeros", "whole", "refused"];
     for name in names {
         let stored = file(&format!("{name}.out"));
         let found = program::run(file(&format!("{name}.txt")).as_bytes(), Feed::Pipe);
@@ -45,7 +45,7 @@ fn book(assign: &Path, text: &str) -> Output {
 
 #[test]
 fn only_a_whole_list_is_booked() {
-    for name in ["wheel", "pro-rata", "lottery", "whole"] {
+    for name in ["wheel", "pro-rata", "lottery", "leading-zeros", "whole"] {
         let found = book(&program::path(), &format!("{name}.txt"));
         assert!(found.status.success() && found.stderr.is_empty(), "{name}");
         assert_eq!(String::from_utf8(found.stdout).unwrap(), file(&format!("{name}.out")), "{name}");

@@ -45,9 +45,24 @@ fn plain_allocation() {
     assert!(!count.undrawn().contains(&0));
 }
 
+// Holds the reading of a text against the separate version; the series, where there is one.
+fn read(text: &[u8], room: usize) -> Result<reference::Series, u32> {
+    let (mut accounts, mut shorts) = (vec![0; room], vec![0; room]);
+    let found = plain::read(text, &mut accounts, &mut shorts);
+    let found = found.map(|(method, exercised, draw, count)| {
+        accounts.truncate(count);
+        shorts.truncate(count);
+        reference::Series { method, exercised, draw, accounts, shorts }
+    });
+    assert_eq!(found, reference::read(text, room, room), "{}", cases::read(text, room, room));
+    found
+}
+
 #[test]
 fn plain_texts() {
     let mut random = Random::new(0xBE7C_0002);
+    let mut count = Count::new("plain texts");
+    let mut zeros = 0;
     for _ in 0..15_000 {
         let lines = make::lines(&mut random);
         let mut text = make::text(&mut random, lines);
@@ -55,19 +70,38 @@ fn plain_texts() {
             make::damage(&mut random, &mut text);
         }
         let room = random.pick(&[1_024, lines]);
-        let (mut accounts, mut shorts) = (vec![0; room], vec![0; room]);
-        let found = plain::read(&text, &mut accounts, &mut shorts);
-        let found = found.map(|(method, exercised, draw, count)| {
-            accounts.truncate(count);
-            shorts.truncate(count);
-            reference::Series { method, exercised, draw, accounts, shorts }
-        });
-        assert_eq!(found, reference::read(&text, room, room), "{}", cases::read(&text, room, room));
+        let found = read(&text, room);
+        count.case(Ok(found.is_ok()));
         if let Ok(s) = found {
-            let mut out = vec![0; text.len() + 5];
+            let expected = reference::write(s.method, s.exercised, s.draw, &s.accounts, &s.shorts, usize::MAX).unwrap();
+            let mut out = vec![0; expected.len() + 5];
             let length = plain::write(s.method, s.exercised, s.draw, &s.accounts, &s.shorts, &mut out);
-            assert_eq!(length, Ok(text.len()));
-            assert_eq!(out[..text.len()], text[..]);
+            assert_eq!(length, Ok(expected.len()));
+            assert_eq!(out[..expected.len()], expected[..]);
+            zeros += u32::from(expected != text);
         }
+    }
+    count.print();
+    println!("plain texts: {zeros} accepted with leading zeros");
+    assert!(zeros > 1_000);
+}
+
+#[test]
+fn plain_numbers() {
+    let most = u64::from(u32::MAX);
+    for value in [0, 1, 9, 10, 65_536, 999_999_999, 1_000_000_000, most, most + 1, 2 * most + 3, 9_999_999_999] {
+        for zeros in 0..=12 {
+            let number = format!("{}{value}", "0".repeat(zeros));
+            for field in 0..make::FIELDS {
+                let found = read(&make::in_field(field, &number), 1);
+                assert_eq!(found.is_ok(), number.len() <= 10 && value <= most, "{number}");
+                for malformed in [format!("{number}x"), format!(" {number}")] {
+                    assert_eq!(read(&make::in_field(field, &malformed), 1), Err(13));
+                }
+            }
+        }
+    }
+    for field in 0..make::FIELDS {
+        assert_eq!(read(&make::in_field(field, ""), 1), Err(13));
     }
 }

@@ -30,6 +30,24 @@ fn case_m_in_full() {
 }
 
 #[test]
+fn leading_zeros() {
+    let m = "method,exercised,draw\nL,0013,0000004855\naccount,short\n0001,5\n0002,08\n03,002\n4,10\n0000000005,11\n";
+    let in_ten = String::from_utf8(make::spelled(M, |_, _| 10)).unwrap();
+    for (text, printed) in [
+        (m, M_ASSIGNED),
+        (&in_ten, M_ASSIGNED),
+        (&m.replace("0001,", "00000000001,"), b"refused\n13\n"),
+        (&in_ten.replace("4855", "04855"), b"refused\n13\n"),
+        (&m.replace("0002,", "01,"), b"refused\n5\n"),
+    ] {
+        for feed in [Feed::Pipe, Feed::File] {
+            assert_eq!(program::run(text.as_bytes(), feed).stdout, printed, "{text}");
+            assert_eq!(program::compare(text.as_bytes(), feed), Ok(printed == M_ASSIGNED));
+        }
+    }
+}
+
+#[test]
 fn random_texts() {
     let mut random = Random::new(0xA551_0001);
     let mut count = Count::new("program, random texts");

@@ -51,6 +51,23 @@ fn case_m_in_full() {
 }
 
 #[test]
+fn leading_zeros() {
+    let text = b"method,exercised,draw\nL,0000000013,04855\naccount,short\n0001,0036\n4294967295,00000000000\n";
+    let (mut accounts, mut shorts) = ([0; 2], [0; 2]);
+    assert_eq!(dilbreth::read(text, &mut accounts, &mut shorts), Err(Refused(13)));
+    let text = b"method,exercised,draw\nL,0000000013,04855\naccount,short\n0001,0036\n4294967295,0000000000\n";
+    let terms = dilbreth::read(text, &mut accounts, &mut shorts).unwrap();
+    assert_eq!(terms, Terms { method: Method::Lottery, exercised: 13, draw: 4855, positions: 2 });
+    assert_eq!((accounts, shorts), ([1, u32::MAX], [36, 0]));
+    let mut bytes = [0; 100];
+    let length = dilbreth::write(terms.method, 13, 4855, &accounts, &shorts, &mut bytes).unwrap();
+    assert_eq!(&bytes[..length], b"method,exercised,draw\nL,13,4855\naccount,short\n1,36\n4294967295,0\n");
+    let text = b"method,exercised,draw\nL,0000000013,04855\naccount,short\n0001,0036\n";
+    let length = dilbreth::respond(text, &mut bytes).unwrap();
+    assert_eq!(&bytes[..length], b"account,assigned\n1,13\n");
+}
+
+#[test]
 fn refusals_are_errors() {
     assert_eq!(dilbreth::allocate(Method::Wheel, &[1], &[36], 37, 1, &mut [0]), Err(Refused(9)));
     assert_eq!(dilbreth::allocate(Method::Wheel, &[1], &[36], 13, 0, &mut [0]), Err(Refused(10)));

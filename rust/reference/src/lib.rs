@@ -7,6 +7,7 @@ pub const MOST_POSITIONS: usize = 4_096;
 pub const MOST_LINES: usize = 1_024;
 pub const MOST_CONTRACTS: u64 = 10_000_000;
 pub const MOST_BYTES: usize = 32_768;
+pub const MOST_DIGITS: usize = 10;
 pub const INCREMENT: u64 = 25;
 
 const NAMES_1: &[u8] = b"method,exercised,draw\n";
@@ -220,18 +221,17 @@ fn lottery(shorts: &[u32], total: u32, exercised: u32, draw: u32) -> (Vec<u32>, 
     (amounts, start)
 }
 
+/// A number has one to ten digits, leading zeros among them, and fits 32 bits.
 fn number(field: &[u8]) -> Result<u32, u32> {
-    let digits = std::str::from_utf8(field).map_err(|_| 13u32)?;
-    if !digits.chars().all(|c| c.is_ascii_digit()) {
+    let one_to_ten = (1..=MOST_DIGITS).contains(&field.len());
+    if !one_to_ten || !field.iter().all(u8::is_ascii_digit) {
         return Err(13);
     }
-    let value: u32 = digits.parse().map_err(|_| 13u32)?;
-    // Only the one spelling without leading zeros.
-    if value.to_string() == digits {
-        Ok(value)
-    } else {
-        Err(13)
+    let mut value = 0u64;
+    for digit in field {
+        value = value * 10 + u64::from(digit - b'0');
     }
+    u32::try_from(value).map_err(|_| 13)
 }
 
 /// The fields of a line that ends with byte 10.

@@ -237,8 +237,9 @@ fn reading_refusals_in_order() {
         ("W,a,1\n", 13),
         ("W,,1\n", 13),
         ("W,1,\n", 13),
-        ("W,01,1\n", 13),
-        ("W,00,1\n", 13),
+        ("W,00000000001,1\n", 13),
+        ("W,1,00000000000\n", 13),
+        ("X,00000000001,1\n", 14),
         ("W,+1,1\n", 13),
         ("W,-1,1\n", 13),
         ("W, 1,1\n", 13),
@@ -252,15 +253,14 @@ fn reading_refusals_in_order() {
     for line in ["", "\n", "account,short", "account,short\r\n", "account,shorts\n", "1,1\n", " account,short\n"] {
         assert_eq!(read_text(&text("W,1,1\n", line, "")), Err(12), "{line:?}");
     }
-    for line in ["\n", "1,1", "1\n", "1,1,1\n", "1,\n", ",1\n", "1,01\n", "1,1\n\n", "1,1\r\n", "a\n", "1,4294967296\n"]
-    {
+    for line in ["\n", "1,1", "1\n", "1,1,1\n", "1,\n", ",1\n", "1,1\n\n", "1,1\r\n", "a\n", "1,4294967296\n"] {
         assert_eq!(read_text(&text("W,1,1\n", good, line)), Err(13), "{line:?}");
     }
     let empty = read_text(&text("P,0,4294967295\n", good, "")).unwrap();
     assert_eq!((empty.exercised, empty.draw, empty.accounts.len()), (0, u32::MAX, 0));
     let most = "0,0\n".repeat(1_024);
     assert_eq!(read_text(&text("W,1,1\n", good, &most)).unwrap().accounts.len(), 1_024);
-    for extra in ["0,0\n", "\n", "x", "0,0"] {
+    for extra in ["0,0\n", "\n", "x", "0,0", "00000000001,1\n"] {
         assert_eq!(read_text(&text("W,1,1\n", good, &format!("{most}{extra}"))), Err(15));
     }
     // The 1,024th line is judged before the 1,025th is met.
@@ -272,6 +272,88 @@ fn reading_refusals_in_order() {
         assert_eq!(read(&one, accounts, shorts).err(), answer);
     }
     assert_eq!(read(&text("W,1,1\n", good, "1,1\nx\n"), 0, 0), Err(13));
+}
+
+// What a number reads as: as S, draw, account and shorts.
+fn read_in_each_field(number: &str) -> [Result<u32, u32>; 4] {
+    std::array::from_fn(|field| {
+        let mut fields = ["1"; 4];
+        fields[field] = number;
+        let [exercised, draw, account, short] = fields;
+        let line_2 = format!("W,{exercised},{draw}\n");
+        let series = read_text(&text(&line_2, "account,short\n", &format!("{account},{short}\n")))?;
+        Ok([series.exercised, series.draw, series.accounts[0], series.shorts[0]][field])
+    })
+}
+
+#[test]
+fn spellings_of_a_number() {
+    for (number, value) in [
+        ("0", 0),
+        ("00", 0),
+        ("0000000000", 0),
+        ("1", 1),
+        ("01", 1),
+        ("0001", 1),
+        ("0000000001", 1),
+        ("0012000", 12_000),
+        ("0999999999", 999_999_999),
+        ("1000000000", 1_000_000_000),
+        ("4294967295", u32::MAX),
+    ] {
+        assert_eq!(read_in_each_field(number), [Ok(value); 4], "{number}");
+    }
+    for number in [
+        "",
+        "00000000000",
+        "00000000001",
+        "000000000001",
+        "04294967295",
+        "4294967296",
+        "8589934593",
+        "9999999999",
+        "10000000000",
+        "0x1",
+        "0 1",
+        "-01",
+        "000000000\u{661}",
+    ] {
+        assert_eq!(read_in_each_field(number), [Err(13); 4], "{number:?}");
+    }
+}
+
+#[test]
+fn two_spellings_are_one_account() {
+    for (lines, number) in [
+        ("1,3\n01,4\n", 5),
+        ("01,3\n1,4\n", 5),
+        ("0000000001,3\n0001,4\n", 5),
+        ("0000,3\n", 5),
+        ("0010,3\n9,4\n", 5),
+        ("9,000\n", 6),
+    ] {
+        let found = printed(&text("W,1,1\n", "account,short\n", lines));
+        assert_eq!(found, format!("refused\n{number}\n").into_bytes(), "{lines:?}");
+    }
+    let series = read_text(&text("W,1,1\n", "account,short\n", "1,3\n01,4\n")).unwrap();
+    assert_eq!((series.accounts, series.shorts), (vec![1, 1], vec![3, 4]));
+}
+
+#[test]
+fn spelling_changes_nothing_that_is_written() {
+    for (method, shorts, exercised, draw, ..) in KNOWN {
+        let accounts = upward(shorts.len());
+        let written = write(method, exercised, draw, &accounts, shorts, MOST_BYTES).unwrap();
+        for width in 1..=MOST_DIGITS {
+            let line_2 = format!("{},{exercised:0width$},{draw:0width$}\n", char::from(method));
+            let lines = accounts.iter().zip(shorts).map(|(a, s)| format!("{a:0width$},{s:0width$}\n"));
+            let spelled = text(&line_2, "account,short\n", &lines.collect::<String>());
+            assert_eq!(printed(&spelled), printed(&written), "{width}");
+            let series = read_text(&spelled).unwrap();
+            let again = write(method, series.exercised, series.draw, &series.accounts, &series.shorts, written.len());
+            assert_eq!(again.as_ref(), Ok(&written), "{width}");
+        }
+    }
 }
 
 #[test]

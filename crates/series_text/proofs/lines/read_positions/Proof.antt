@@ -6,9 +6,9 @@ use native.Mathlib.Omega.{arith}
 use borrow.Author.Needs.{needs}
 use lib.ListN.{length, getD, take, drop, length-set}
 use Rattle.series.specs.Sums.{listed}
-use Rattle.series_text.specs.Rows.{rowsOf}
+use Rattle.series_text.specs.Rows.{readRow, rowsOf}
 use Rattle.series_text.specs.Text.{MOST_LINES}
-use Rattle.series_text.specs.Parts.{fieldsMean, fieldsThenNumbers}
+use Rattle.series_text.specs.Parts.{rowMeans}
 use Rattle.series_text.proofs.LineLaws.{RowsTo, rows-start, rows-end, rows-over, rows-malformed, rows-more}
 use Rattle.series_text.proofs.ColumnLaws.{rows-set}
 use Rattle.series_text.proofs.lines.read_positions.Statement.{statement}
@@ -23,9 +23,9 @@ abbrev μ-loop : tie.MeasureT-loop
 μ-loop text from accounts₀ shorts₀ row₀ at₀ n₀ accounts shorts row at n = MOST_LINES - n
 
 -- what `read_row` answered of a row of two
-fields : (c : tie.After-read-row Inv-loop μ-loop) → let s = c .before .before .before .before .before .before .before .before .args .text .now in
-    fieldsMean s (c .read-row .last .1 .1 .0) (c .read-row .result) ≡ fieldsThenNumbers 2 (drop (c .before .before .before .before .loop .at) s)
-fields c = rw (c .before .before .before .before .loop .inv .3) at (c .read-row .ensures)
+row-read : (c : tie.After-read-row Inv-loop μ-loop) → let s = c .before .before .before .before .before .before .before .before .args .text .now in
+    rowMeans s (c .read-row .last .1 .1 .0) (c .read-row .result) ≡ readRow 2 (drop (c .before .before .before .before .loop .at) s)
+row-read c = rw (c .before .before .before .before .loop .inv .3) at (c .read-row .ensures)
 
 loop-holds : tie.Need-loop-holds Inv-loop μ-loop
 unfolding rowsOf listed
@@ -49,6 +49,9 @@ read-row-requires c κs = search needs
 enum-known-next : tie.Need-enum-known-next Inv-loop μ-loop
 enum-known-next c = search needs
 
+enum-told : tie.Need-enum-told Inv-loop μ-loop
+enum-told c = search needs
+
 same-length-3 : tie.Need-same-length-3 Inv-loop μ-loop
 same-length-3 c = omega arith
 
@@ -57,7 +60,7 @@ same-length-4 c = omega arith
 
 returns-2 : tie.Need-returns-2 Inv-loop μ-loop
 returns-2 c = (
-  rows-malformed (c .before .before .before .before .before .before .loop .inv .4) (omega arith) (omega arith) _ _ (c .before .before .read-row .result) (c .match .keys2) (fields (c .before .before)),
+  rows-malformed (c .before .before .before .before .before .before .before .loop .inv .4) (omega arith) (omega arith) (ap (rowMeans _ _) (sym (c .enum-told .given .1)) ∙ row-read (c .before .before .before)),
   tt,
 )
 
@@ -89,7 +92,7 @@ loop-again : tie.Need-loop-again Inv-loop μ-loop
 loop-again c = let l = c .before .before .before .before .before .before .before .before .loop in
     let row = c .before .before .before .before .read-row .last .1 .1 .0 in
     let two : length row ≡ 2 = omega (arith, c .before .before .before .before .read-row .kept .1 .1 .0) in
-    let more = rows-more (l .inv .4) (omega arith) (omega arith) {next = c .before .next .given .0 .0} (ap (fieldsMean _ _) (sym (c .before .next .given .1)) ∙ fields (c .before .before .before .before)) in (
+    let more = rows-more (l .inv .4) (omega arith) (omega arith) {next = c .before .next .given .0 .0} (ap (rowMeans _ _) (sym (c .before .next .given .1)) ∙ row-read (c .before .before .before .before)) in (
       omega arith,
       length-set (l .accounts) (l .n) (getD row 0 0) ∙ l .inv .1,
       length-set (l .shorts) (l .n) (getD row 1 0) ∙ l .inv .2,
@@ -119,6 +122,7 @@ read-positions-spec =
     slice-aggregate-read-row
     read-row-requires
     enum-known-next
+    enum-told
     same-length-3
     same-length-4
     returns-2

@@ -3,12 +3,12 @@ use Prim.Native.Nat.{_+_}
 use mathlib.Core.Path.{_≡_, sym, ap, _∙_}
 use native.Mathlib.Omega.{arith}
 use borrow.Author.Needs.{needs}
-use lib.Seq.{slice}
+use lib.ListN.{drop}
 use Rattle.series.specs.Results.{value}
 use Rattle.series_text.specs.Fields.{COMMA}
-use Rattle.series_text.specs.Letters.{methodOf}
-use Rattle.series_text.specs.Parts.{foundMeans, fieldsMean, namedMeans}
-use Rattle.series_text.proofs.LineLaws.{FoundAt, found-at, terms-first, terms-missing, terms-unknown, terms-malformed, terms-all}
+use Rattle.series_text.specs.Rows.{readRow}
+use Rattle.series_text.specs.Parts.{foundMeans, rowMeans, namedMeans}
+use Rattle.series_text.proofs.LineLaws.{FoundAt, found-at, terms-first, terms-unknown, terms-all, row-found}
 use Rattle.series_text.proofs.lines.read_terms.Statement.{statement}
 use Rattle.series_text.proofs.lines.read_terms.Tie as tie
 
@@ -16,9 +16,10 @@ use Rattle.series_text.proofs.lines.read_terms.Tie as tie
 first : (c : tie.After-known-told) → let a = c .before .before .before .before .before .args in FoundAt (a .text .now) (a .at) COMMA (c .before .comma .given .0 .0)
 first c = found-at _ _ _ _ _ (c .before .comma .given .1) (c .before .before .before .find-end .ensures .0) (c .before .before .before .find-end .ensures .1)
 
--- the method that it names
-method : (c : tie.After-known-told2) → let a = c .before .before .before .before .before .before .before .before .before .before .before .before .before .args in value (c .before .method .given .0 .0) ≡ methodOf (slice (a .at) (c .before .before .before .before .before .before .before .before .before .comma .given .0 .0) (a .text .now))
-method c = ap namedMeans (sym (c .before .method .given .1)) ∙ c .before .before .before .read-method .ensures
+-- the two numbers after it
+numbers : (c : tie.After-known-told2) → let s = c .before .before .before .before .before .before .before .before .before .before .before .args .text .now in
+    value (record { found = c .before .before .before .before .read-row .last .1 .1 .0; rest = drop (c .before .next .given .0 .0) s }) ≡ readRow 2 (drop (c .before .before .before .before .before .before .before .comma .given .0 .0 + 1) s)
+numbers c = ap (rowMeans _ _) (sym (c .before .next .given .1)) ∙ c .before .before .before .before .read-row .ensures
 
 find-end-requires : tie.Need-find-end-requires
 find-end-requires c κs = search needs
@@ -41,14 +42,20 @@ slice-aggregate-read-row c = search needs
 read-row-requires : tie.Need-read-row-requires
 read-row-requires c κs = search needs
 
+enum-known-next : tie.Need-enum-known-next
+enum-known-next c = search needs
+
 enum-told-2 : tie.Need-enum-told-2
 enum-told-2 c = search needs
 
+refuse-terms-requires : tie.Need-refuse-terms-requires
+refuse-terms-requires c κs = let f = first (c .before .before .before .before .before) in record { after = f .after; within = f .within; first = f .reads; numbers = ap (rowMeans _ _) (sym (c .enum-told2 .given .1)) ∙ c .before .before .before .read-row .ensures }
+
 returns-2 : tie.Need-returns-2
-returns-2 c = terms-missing _ (first (c .before .before .before .before .before) .reads) (ap (fieldsMean _ _) (sym (c .enum-told2 .given .1)) ∙ c .before .before .before .read-row .ensures)
+returns-2 c = c .refuse-terms .ensures
 
 read-method-requires : tie.Need-read-method-requires
-read-method-requires c κs = let f = first (c .before .before .before .before) in (f .after, omega (arith, f .within))
+read-method-requires c κs = let f = first (c .before .before .before .before .before .before) in (f .after, omega (arith, f .within))
 
 enum-known-method : tie.Need-enum-known-method
 enum-known-method c = search needs
@@ -57,26 +64,16 @@ enum-told-3 : tie.Need-enum-told-3
 enum-told-3 c = search needs
 
 returns-3 : tie.Need-returns-3
-returns-3 c =
-    terms-unknown _ (first (c .before .before .before .before .before .before .before) .reads) (c .before .before .before .before .before .before .before .before .before .before .before .before .args .text .now) _ (c .before .before .before .before .before .read-row .result) (c .before .before .before .match2 .keys2) (c .before .before .before .before .before .read-row .ensures)
-    (ap namedMeans (sym (c .enum-told3 .given .1)) ∙ c .before .before .read-method .ensures)
+returns-3 c = terms-unknown _ (first (c .before .before .before .before .before .before .before .before .before) .reads) (row-found _ _ (numbers (c .before .before .before))) (ap namedMeans (sym (c .enum-told3 .given .1)) ∙ c .before .before .read-method .ensures)
 
-enum-known-fields : tie.Need-enum-known-fields
-enum-known-fields c = search needs
+array-read-t18 : tie.Need-array-read-t18
+array-read-t18 c = search needs
+
+array-read-t22 : tie.Need-array-read-t22
+array-read-t22 c = search needs
 
 returns-4 : tie.Need-returns-4
-returns-4 c = terms-malformed _ (first (c .before .before .before .before .before .before .before .before .before) .reads) (method (c .before)) (c .before .before .before .before .before .before .before .before .before .before .before .before .before .before .args .text .now) _ (c .before .before .before .before .before .before .before .read-row .result) (c .match4 .keys2) (c .before .before .before .before .before .before .before .read-row .ensures)
-
-array-read-t19 : tie.Need-array-read-t19
-array-read-t19 c = search needs
-
-array-read-t23 : tie.Need-array-read-t23
-array-read-t23 c = search needs
-
-returns-5 : tie.Need-returns-5
-returns-5 c =
-    terms-all _ (first (c .before .before .before .before .before .before .before .before .before .before .before) .reads) (method (c .before .before .before))
-    (ap (fieldsMean _ _) (sym (c .before .fields .given .1)) ∙ c .before .before .before .before .before .before .before .before .before .read-row .ensures)
+returns-4 c = terms-all _ (first (c .before .before .before .before .before .before .before .before .before .before) .reads) (ap namedMeans (sym (c .before .method .given .1)) ∙ c .before .before .before .read-method .ensures) (numbers (c .before .before .before .before))
 
 pub read-terms-spec : {M : Type 1} → statement M
 read-terms-spec =
@@ -89,14 +86,14 @@ read-terms-spec =
     add-read-row
     slice-aggregate-read-row
     read-row-requires
+    enum-known-next
     enum-told-2
+    refuse-terms-requires
     returns-2
     read-method-requires
     enum-known-method
     enum-told-3
     returns-3
-    enum-known-fields
-    returns-4
-    array-read-t19
-    array-read-t23
-    returns-5)
+    array-read-t18
+    array-read-t22
+    returns-4)

@@ -1,9 +1,10 @@
--- `number::read_number` meets its contract. The loop's invariant: the bytes passed are digits of the field, and `n` is their number.
+-- `number::read_number` meets its contract. The loop's invariant: the bytes passed are digits of the field, at most ten, and `n` is their number.
 use Prim.Native.Nat.{_-_}
 use mathlib.Core.Path.{sym, _∙_}
 use native.Mathlib.Omega.{arith}
-use lib.ListN.{length}
-use Rattle.series_text.proofs.FieldLaws.{NumberTo, number-start, number-more, number-large, number-high, number-low, number-end, number-misspelt, number-none}
+use borrow.Author.Tests.{not-true, not-false}
+use lib.ListN.{length, getD}
+use Rattle.series_text.proofs.FieldLaws.{NumberTo, digit-bounds, number-start, number-small, number-more, number-long, number-other, number-none, number-end, number-empty, number-large}
 use Rattle.series_text.proofs.number.read_number.Statement.{statement}
 use Rattle.series_text.proofs.number.read_number.Tie as tie
 
@@ -19,13 +20,25 @@ loop-holds c = let a = c .before .args in number-start (a .end) (a .text .now) (
 shared-slice-read-byte : tie.Need-shared-slice-read-byte Inv-loop μ-loop
 shared-slice-read-byte c = omega arith
 
-returns : tie.Need-returns Inv-loop μ-loop
-returns c = let a = c .before .before .before .before .before .before .args in
-    let l = c .before .before .before .before .loop in
-    sym (number-low (a .end) (a .text .now) (a .at) (l .i) (l .n) (l .inv) (omega arith) (c .before .if1 .taken) (c .if2 .taken))
+is-digit-requires : tie.Need-is-digit-requires Inv-loop μ-loop
+is-digit-requires c κs = tt
 
-is-spelled-requires : tie.Need-is-spelled-requires Inv-loop μ-loop
-is-spelled-requires c κs = omega arith
+returns : tie.Need-returns Inv-loop μ-loop
+returns c = let a = c .before .before .before .before .before .before .before .args in
+    let l = c .before .before .before .before .before .loop in
+    sym (number-other (a .end) (a .text .now) (a .at) (l .i) (l .n) (l .inv) (omega arith) (sym (c .before .before .is-digit .ensures) ∙ not-true _ (c .before .if1 .taken)) (c .if2 .taken))
+
+returns-2 : tie.Need-returns-2 Inv-loop μ-loop
+returns-2 c = let k = c .before .before .before .before .before .before .before .before in
+    let a = k .args in
+    let l = c .before .before .before .before .before .before .loop in
+    sym (number-empty (a .end) (a .text .now) (a .at) (l .i) (l .n) (l .inv) (omega arith) (c .before .if2 .left) (k .pre) (c .if3 .taken))
+
+returns-3 : tie.Need-returns-3 Inv-loop μ-loop
+returns-3 c = let k = c .before .before .before .before .before .before .before .before .before in
+    let a = k .args in
+    let l = c .before .before .before .before .before .before .before .loop in
+    sym (number-large (a .end) (a .text .now) (a .at) (l .i) (l .n) (l .inv) (omega arith) (c .before .before .if2 .left) (k .pre) (c .if4 .taken))
 
 cast-t13 : tie.Need-cast-t13 Inv-loop μ-loop
 cast-t13 c = omega arith
@@ -33,36 +46,35 @@ cast-t13 c = omega arith
 add-t14 : tie.Need-add-t14 Inv-loop μ-loop
 add-t14 c = omega arith
 
-returns-2 : tie.Need-returns-2 Inv-loop μ-loop
-returns-2 c = let k = c .before .before .before .before .before .before .before .before in
-    let a = k .args in
-    let l = c .before .before .before .before .before .before .loop in
-    sym (number-end (a .end) (a .text .now) (a .at) (l .i) (l .n) (l .inv) (omega arith) (c .before .before .if2 .left) (k .pre) (sym (c .if3 .taken) ∙ c .before .is-spelled .ensures))
-
-returns-3 : tie.Need-returns-3 Inv-loop μ-loop
-returns-3 c = let k = c .before .before .before .before .before .before .before .before in
-    let a = k .args in
-    let l = c .before .before .before .before .before .before .loop in
-    sym (number-misspelt (a .end) (a .text .now) (a .at) (l .i) (l .n) (l .inv) (omega arith) (c .before .before .if2 .left) (k .pre) (sym (c .if3 .left) ∙ c .before .is-spelled .ensures))
-
 returns-4 : tie.Need-returns-4 Inv-loop μ-loop
-returns-4 c = let a = c .before .before .before .before .before .before .args in
-    let l = c .before .before .before .before .loop in
-    sym (number-high (a .end) (a .text .now) (a .at) (l .i) (l .n) (l .inv) (omega arith) (c .if4 .taken))
+returns-4 c = let k = c .before .before .before .before .before .before .before .before .before in
+    let a = k .args in
+    let l = c .before .before .before .before .before .before .before .loop in
+    sym (number-end (a .end) (a .text .now) (a .at) (l .i) (l .n) (l .inv) (omega arith) (c .before .before .if2 .left) (k .pre) (c .before .if3 .left) (c .if4 .left))
 
-mul-n : tie.Need-mul-n Inv-loop μ-loop
-mul-n c = omega arith
-
-cast-n : tie.Need-cast-n Inv-loop μ-loop
-cast-n c = omega (arith, c .before .before .shared-slice-known2 .given (c .before .before .before .before .loop .i))
-
-add-n : tie.Need-add-n Inv-loop μ-loop
-add-n c = omega (arith, c .before .before .shared-slice-known2 .given (c .before .before .before .before .loop .i))
+sub-if5 : tie.Need-sub-if5 Inv-loop μ-loop
+sub-if5 c = omega (arith, c .before .before .before .before .loop .inv .within)
 
 returns-5 : tie.Need-returns-5 Inv-loop μ-loop
 returns-5 c = let a = c .before .before .before .before .before .before .before .args in
     let l = c .before .before .before .before .before .loop in
-    sym (number-large (a .end) (a .text .now) (a .at) (l .i) (l .n) (l .inv) (omega arith) (omega arith) (c .if5 .taken))
+    sym (number-long (a .end) (a .text .now) (a .at) (l .i) (l .n) (l .inv) (omega arith) (sym (c .before .before .is-digit .ensures) ∙ not-false _ (c .before .if1 .left)) (c .if5 .taken))
+
+mul-n : tie.Need-mul-n Inv-loop μ-loop
+mul-n c = let a = c .before .before .before .before .before .before .before .args in
+    let l = c .before .before .before .before .before .loop in
+    omega (arith, number-small (a .end) (a .text .now) (a .at) (l .i) (l .n) (l .inv))
+
+sub-n : tie.Need-sub-n Inv-loop μ-loop
+sub-n c = digit-bounds _ (sym (c .before .before .is-digit .ensures) ∙ not-false _ (c .before .if1 .left)) .0
+
+cast-n : tie.Need-cast-n Inv-loop μ-loop
+cast-n c = omega (arith, digit-bounds (getD (c .before .before .before .before .before .before .before .args .text .now) (c .before .before .before .before .before .loop .i) 0) (sym (c .before .before .is-digit .ensures) ∙ not-false _ (c .before .if1 .left)) .1)
+
+add-n : tie.Need-add-n Inv-loop μ-loop
+add-n c = let a = c .before .before .before .before .before .before .before .args in
+    let l = c .before .before .before .before .before .loop in
+    omega (arith, number-small (a .end) (a .text .now) (a .at) (l .i) (l .n) (l .inv), digit-bounds (getD (a .text .now) (l .i) 0) (sym (c .before .before .is-digit .ensures) ∙ not-false _ (c .before .if1 .left)) .1)
 
 add-i : tie.Need-add-i Inv-loop μ-loop
 add-i c = omega arith
@@ -73,7 +85,7 @@ loop-less c = omega arith
 loop-again : tie.Need-loop-again Inv-loop μ-loop
 loop-again c = let a = c .before .before .before .before .before .before .before .args in
     let l = c .before .before .before .before .before .loop in
-    number-more (a .end) (a .text .now) (a .at) (l .i) (l .n) (l .inv) (omega arith) (omega arith) (omega arith) (c .if5 .left)
+    number-more (a .end) (a .text .now) (a .at) (l .i) (l .n) (l .inv) (omega arith) (sym (c .before .before .is-digit .ensures) ∙ not-false _ (c .before .if1 .left)) (c .if5 .left)
 
 returns-6 : tie.Need-returns-6 Inv-loop μ-loop
 returns-6 c = let a = c .before .before .before .args in
@@ -88,17 +100,19 @@ read-number-spec =
     μ-loop
     loop-holds
     shared-slice-read-byte
+    is-digit-requires
     returns
-    is-spelled-requires
-    cast-t13
-    add-t14
     returns-2
     returns-3
+    cast-t13
+    add-t14
     returns-4
+    sub-if5
+    returns-5
     mul-n
+    sub-n
     cast-n
     add-n
-    returns-5
     add-i
     loop-less
     loop-again

@@ -3,9 +3,9 @@ use Prim.Native.Nat.{_+_, _-_, _≤_}
 use mathlib.Core.Path.{_≡_, refl, sym, ap, _∙_}
 use native.Mathlib.Omega.{arith}
 use lib.ListN.{length, drop, length-set}
-use Rattle.series_text.specs.Fields.{ends, endBefore}
+use Rattle.series_text.specs.Fields.{ends}
 use Rattle.series_text.specs.Parts.{fieldMeans, numberBy}
-use Rattle.series_text.proofs.LineLaws.{end-last, end-other, RowTo, row-start, row-end, row-missing, row-more, row-malformed}
+use Rattle.series_text.proofs.LineLaws.{end-last, end-other, RowTo, row-start, row-end, row-more, row-malformed}
 use borrow.Author.Needs.{needs}
 use Rattle.series_text.proofs.row.read_row.Statement.{statement}
 use Rattle.series_text.proofs.row.read_row.Tie as tie
@@ -53,25 +53,13 @@ enum-known-number c = search needs
 enum-told : tie.Need-enum-told Inv-loop μ-loop
 enum-told c = search needs
 
-sub-has-fields : tie.Need-sub-has-fields Inv-loop μ-loop
-sub-has-fields c = omega arith
-
-has-fields-requires : tie.Need-has-fields-requires Inv-loop μ-loop
-has-fields-requires c κs = search needs
-
 same-length : tie.Need-same-length Inv-loop μ-loop
 same-length c = omega arith
 
 returns-2 : tie.Need-returns-2 Inv-loop μ-loop
-returns-2 c = let l = c .before .before .before .before .before .before .loop in
+returns-2 c = let l = c .before .before .before .before .loop in
     let j = length (l .row) - l .i - 1 in
-    row-malformed (so (c .before .before .before .before .before)) {j = j} (omega arith) (ap (fieldMeans _) (sym (c .before .before .enum-told .given .1)) ∙ c .before .before .before .before .read-number .ensures ∙ ap (λ e. numberBy e (drop (l .next) (c .before .before .before .before .before .before .before .before .before .before .args .text .now))) (end-other j (λ z. omega arith))) (sym (c .if2 .taken) ∙ c .before .has-fields .ensures)
-
-same-length-2 : tie.Need-same-length-2 Inv-loop μ-loop
-same-length-2 c = omega arith
-
-returns-3 : tie.Need-returns-3 Inv-loop μ-loop
-returns-3 c = row-missing (so (c .before .before .before .before .before)) (sym (c .if2 .left) ∙ c .before .has-fields .ensures)
+    row-malformed (so (c .before .before .before)) {j = j} (omega arith) (ap (fieldMeans _) (sym (c .enum-told .given .1)) ∙ c .before .before .read-number .ensures ∙ ap (λ e. numberBy e (drop (l .next) (c .before .before .before .before .before .before .before .before .args .text .now))) (end-other j (λ z. omega arith)))
 
 mul-row : tie.Need-mul-row Inv-loop μ-loop
 mul-row c = omega arith
@@ -104,20 +92,11 @@ enum-known-number-2 c = search needs
 enum-told-2 : tie.Need-enum-told-2 Inv-loop μ-loop
 enum-told-2 c = search needs
 
-has-fields-requires-2 : tie.Need-has-fields-requires-2 Inv-loop μ-loop
-has-fields-requires-2 c κs = search needs
+same-length-2 : tie.Need-same-length-2 Inv-loop μ-loop
+same-length-2 c = omega arith
 
-same-length-3 : tie.Need-same-length-3 Inv-loop μ-loop
-same-length-3 c = omega arith
-
-returns-4 : tie.Need-returns-4 Inv-loop μ-loop
-returns-4 c = row-malformed (one-left (c .before .before .before .before .before)) {j = 0} refl (ap (fieldMeans _) (sym (c .before .before .enum-told2 .given .1)) ∙ c .before .before .before .before .read-number2 .ensures ∙ ap (λ e. numberBy e (drop (c .before .before .before .before .before .before .loop .next) (c .before .before .before .before .before .before .before .before .before .before .args .text .now))) (end-last 0 refl)) (sym (c .if3 .taken) ∙ c .before .has-fields2 .ensures)
-
-same-length-4 : tie.Need-same-length-4 Inv-loop μ-loop
-same-length-4 c = omega arith
-
-returns-5 : tie.Need-returns-5 Inv-loop μ-loop
-returns-5 c = row-missing (one-left (c .before .before .before .before .before)) (sym (c .if3 .left) ∙ c .before .has-fields2 .ensures)
+returns-3 : tie.Need-returns-3 Inv-loop μ-loop
+returns-3 c = row-malformed (one-left (c .before .before .before)) {j = 0} refl (ap (fieldMeans _) (sym (c .enum-told2 .given .1)) ∙ c .before .before .read-number2 .ensures ∙ ap (λ e. numberBy e (drop (c .before .before .before .before .loop .next) (c .before .before .before .before .before .before .before .before .args .text .now))) (end-last 0 refl))
 
 mul-row-2 : tie.Need-mul-row-2 Inv-loop μ-loop
 mul-row-2 c = omega arith
@@ -125,12 +104,12 @@ mul-row-2 c = omega arith
 slice-write-row-2 : tie.Need-slice-write-row-2 Inv-loop μ-loop
 slice-write-row-2 c = omega arith
 
-same-length-5 : tie.Need-same-length-5 Inv-loop μ-loop
-same-length-5 c = let l = c .before .before .before .before .before .loop in
+same-length-3 : tie.Need-same-length-3 Inv-loop μ-loop
+same-length-3 c = let l = c .before .before .before .before .before .loop in
     omega (arith, length-set (l .row) (length (c .before .before .before .before .before .before .before .before .before .args .row .now) - 1) (c .before .number2 .given .0 .0), l .inv .1)
 
-returns-6 : tie.Need-returns-6 Inv-loop μ-loop
-returns-6 c = let l = c .before .before .before .before .before .loop in
+returns-4 : tie.Need-returns-4 Inv-loop μ-loop
+returns-4 c = let l = c .before .before .before .before .before .loop in
     let a = c .before .before .before .before .before .before .before .before .before .args in
     let v = c .before .number2 .given in
     let x = row-more (one-left (c .before .before .before .before)) {j = 0} refl {n = v .0 .0} {after = v .0 .1 .0} (omega arith) (ap (fieldMeans _) (sym (v .1)) ∙ c .before .before .before .read-number2 .ensures ∙ ap (λ e. numberBy e (drop (l .next) (c .before .before .before .before .before .before .before .before .before .args .text .now))) (end-last 0 refl)) in
@@ -148,12 +127,8 @@ read-row-spec =
     read-number-requires
     enum-known-number
     enum-told
-    sub-has-fields
-    has-fields-requires
     same-length
     returns-2
-    same-length-2
-    returns-3
     mul-row
     slice-write-row
     add-i
@@ -162,12 +137,9 @@ read-row-spec =
     read-number-requires-2
     enum-known-number-2
     enum-told-2
-    has-fields-requires-2
-    same-length-3
-    returns-4
-    same-length-4
-    returns-5
+    same-length-2
+    returns-3
     mul-row-2
     slice-write-row-2
-    same-length-5
-    returns-6)
+    same-length-3
+    returns-4)
