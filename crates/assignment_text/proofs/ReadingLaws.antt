@@ -1,21 +1,20 @@
 -- What reading gives where the lent lists have room for 1,024 positions.
 use Prim.Native.Nat.{ℕ, _≤_}
-use mathlib.Core.Path.{_≡_, refl, sym, ap, subst, _∙_}
+use mathlib.Core.Path.{_≡_, refl, sym, ap, _∙_}
 use mathlib.Core.List.{List}
 use native.Mathlib.Omega.{arith}
 use borrow.Author.Tests.{le-ltb}
-use lib.ListN.{length, take, length-map}
+use lib.ListN.{length, take}
 use lib.Seq.{take-at}
-use Rattle.series.specs.Results.{Result, refused, value, _>>=_, after}
+use Rattle.series.specs.Results.{Result, refused, value, after}
 use Rattle.series.specs.Outputs.{onto}
 use Rattle.series.specs.Series.{Series}
 use Rattle.series.specs.declared.Terms.{Terms}
-use Rattle.series.proofs.ResultLaws.{never, value-is, stepped}
-use Rattle.series_text.specs.Fields.{Text, Read}
-use Rattle.series_text.specs.Rows.{readRows, column}
-use Rattle.series_text.specs.Text.{MOST_LINES, readHead, readText}
+use Rattle.series.proofs.ResultLaws.{never, value-is}
+use Rattle.series_text.specs.Fields.{Text}
+use Rattle.series_text.specs.Text.{MOST_LINES, readText}
 use Rattle.series_text.specs.Calls.{Handed, readInto, handed}
-use Rattle.series_text.proofs.RowLaws.{rows-are}
+use Rattle.series_text.proofs.ShortestText.{text-is}
 
 -- the lists of a series that was read: of one length, and at most 1,024 positions
 pub record ReadLists (t : Series) : Type 0 where
@@ -23,13 +22,7 @@ pub record ReadLists (t : Series) : Type 0 where
   pub few : length (t .accounts) ≤ MOST_LINES
 
 pub few-positions : (s : Text) (t : Series) → readText s ≡ value t → ReadLists t
-unfolding readText column
-few-positions s t e =
-    let head = stepped (readHead s) _ t e in
-    let rows = stepped (readRows MOST_LINES 2 (head .from .rest)) _ t (head .on) in
-    let is : _≡_ {A = Series} (record { terms = head .from .found; accounts = column 0 (rows .from); shorts = column 1 (rows .from) }) t = value-is (rows .on) in
-    let read = rows-are MOST_LINES 2 (head .from .rest) (rows .from) (rows .step) in
-    subst ReadLists is (record { same = simp length-map; few = rw length-map (read .few) })
+few-positions s t e = let is = text-is s t e in record { same = is .spells .same; few = is .spells .few }
 
 -- the lists have lengths a and h
 module _ (s : Text) (a h : ℕ) (room-a : MOST_LINES ≤ a) (room-h : MOST_LINES ≤ h) where

@@ -163,6 +163,11 @@ pub amount-more : (f : Text) (b : ℕ) → amount (f ++ (b ∷ [])) ≡ amount f
 unfolding amount amountFrom
 amount-more f b = amount-append 0 f (b ∷ [])
 
+-- one to ten digits that stand for a number read as it
+pub digits-read : (f : Text) (n : ℕ) → digits f ≡ true → 1 ≤ length f → length f ≤ MOST_DIGITS → amount f ≡ n → n ≤ LARGEST → number f ≡ value n
+unfolding number numeral spelled
+digits-read f n only some few is fits = rw (only, le-leb 1 (length f) some, le-leb (length f) MOST_DIGITS few, is, le-leb n LARGEST fits)
+
 -- what a loop over the digits of a number keeps: the bytes from index at to index i are digits, at most ten, and n is their number
 pub record NumberTo (c : ℕ) (s : Text) (at i n : ℕ) : Type 0 where
   pub within : at ≤ i
@@ -255,10 +260,8 @@ module _ (c : ℕ) (s : Text) (at i n : ℕ) (so : NumberTo c s at i n) where
     long = length-slice at i s (omega arith)
 
     pub number-end : (i ≡ at → ⊥) → n ≤ LARGEST → numberBy c (drop at s) ≡ value (record { found = n; rest = drop (i + 1) s })
-    unfolding numbered number numeral spelled
-    number-end some fits =
-        let one : 1 ≤ i - at = omega (arith, so .within) in
-        ended ∙ rw (so .only, long, le-leb 1 (i - at) one, le-leb (i - at) MOST_DIGITS (so .few), so .amounts, le-leb n LARGEST fits)
+    unfolding numbered
+    number-end some fits = ended ∙ rw (digits-read (slice at i s) n (so .only) (omega (arith, long, so .within)) (omega (arith, long, so .few)) (so .amounts) fits)
 
     -- no digit stands before it
     pub number-empty : i ≡ at → numberBy c (drop at s) ≡ refused 13

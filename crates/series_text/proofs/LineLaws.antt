@@ -252,10 +252,10 @@ termsBy r m = r >>= λ fs. m >>= λ how. numbers (fs .found) >>= λ ns. value (r
 
 -- a row that is read has its fields
 pub row-found : (k : ℕ) (s : Text) {x : Read (List ℕ)} → value x ≡ readRow k s → true ≡ foundFields (readFields k s)
-unfolding readRow
+unfolding readRow rowBy
 row-found k s {x} h = go (readFields k s) h
   where
-    go : (r : Result (Read (List Text))) → value x ≡ (r >>= λ fs. before (fs .rest) (numbers (fs .found))) → true ≡ foundFields r
+    go : (r : Result (Read (List Text))) → value x ≡ rowBy r → true ≡ foundFields r
     go (refused n) h = absurd (never n x (sym h))
     go (value fs) h = refl
 
@@ -285,27 +285,27 @@ module _ (s : Text) {m : Read Text} (hm : value m ≡ fieldBy COMMA s) where
   module _ {how : Method} (hw : value how ≡ methodOf (m .found)) where
     -- it is known, and the fields are no numbers
     pub terms-malformed : true ≡ foundFields (readFields 2 (m .rest)) → refused 13 ≡ readRow 2 (m .rest) → refused 13 ≡ readTerms s
-    unfolding readRow termsBy
+    unfolding readRow rowBy termsBy
     terms-malformed found h = go (readFields 2 (m .rest)) found h ∙ ap (termsBy (readFields 2 (m .rest))) hw ∙ terms-by
       where
         last : (u : Text) (q : Result (List ℕ)) → refused 13 ≡ before u q → _≡_ {A = Result (Read Terms)} (refused 13) (q >>= λ ns. value (record { found = termsOf how ns; rest = u }))
         last u (refused n) h = cc
         last u (value ns) h = absurd (never 13 _ h)
 
-        go : (r : Result (Read (List Text))) → true ≡ foundFields r → refused 13 ≡ (r >>= λ fs. before (fs .rest) (numbers (fs .found))) → refused 13 ≡ termsBy r (value how)
+        go : (r : Result (Read (List Text))) → true ≡ foundFields r → refused 13 ≡ rowBy r → refused 13 ≡ termsBy r (value how)
         go (refused n) found h = absurd (false≢true (sym found))
         go (value fs) found h = last (fs .rest) (numbers (fs .found)) h
 
     -- two numbers
     pub terms-all : {x : Read (List ℕ)} → value x ≡ readRow 2 (m .rest) → value (record { found = termsOf how (x .found); rest = x .rest }) ≡ readTerms s
-    unfolding readRow termsBy
+    unfolding readRow rowBy termsBy
     terms-all {x} h = go (readFields 2 (m .rest)) h ∙ ap (termsBy (readFields 2 (m .rest))) hw ∙ terms-by
       where
         last : (u : Text) (q : Result (List ℕ)) → value x ≡ before u q → _≡_ {A = Result (Read Terms)} (value (record { found = termsOf how (x .found); rest = x .rest })) (q >>= λ ns. value (record { found = termsOf how ns; rest = u }))
         last u (refused n) h = absurd (never n x (sym h))
         last u (value ns) h = let is : x ≡ record { found = ns; rest = u } = cc in rw is
 
-        go : (r : Result (Read (List Text))) → value x ≡ (r >>= λ fs. before (fs .rest) (numbers (fs .found))) → value (record { found = termsOf how (x .found); rest = x .rest }) ≡ termsBy r (value how)
+        go : (r : Result (Read (List Text))) → value x ≡ rowBy r → value (record { found = termsOf how (x .found); rest = x .rest }) ≡ termsBy r (value how)
         go (refused n) h = absurd (never n x (sym h))
         go (value fs) h = last (fs .rest) (numbers (fs .found)) h
 

@@ -10,9 +10,9 @@ use borrow.Author.Tests.{le-leb}
 use lib.ListN.{length, replicate, length-append, length-replicate}
 use Rattle.series.specs.Results.{value}
 use Rattle.series_text.specs.Fields.{Text, ends, fieldBy}
-use Rattle.series_text.specs.Numbers.{LARGEST, MOST_DIGITS, digit, digits, spelled, amountFrom, amount, numeral, number, decimalIn, decimal}
-use Rattle.series_text.proofs.FieldLaws.{prefixed, prefixed-nil, prefixed-prefixed, field-byte, field-end, and-true-parts, ends-digit, digits-append, amount-more}
-use Rattle.series_text.proofs.DecimalLaws.{decimal-small, decimal-large, digits-few, digits-some}
+use Rattle.series_text.specs.Numbers.{LARGEST, MOST_DIGITS, digit, digits, amountFrom, amount, number, decimalIn, decimal}
+use Rattle.series_text.proofs.FieldLaws.{prefixed, prefixed-nil, prefixed-prefixed, field-byte, field-end, digits-read, and-true-parts, ends-digit, digits-append, amount-more}
+use Rattle.series_text.proofs.DecimalLaws.{decimal-small, decimal-large, digits-some}
 
 -- ---- the digits of a number are digits
 
@@ -51,11 +51,6 @@ amount-in (suc k) n lt = go (amount-in k (n / 10)) (decLt n 10)
 
 -- ---- so a number reads back, with zeros in front or without
 
--- one to ten digits that stand for a number read as it
-pub digits-read : (f : List ℕ) (n : ℕ) → digits f ≡ true → 1 ≤ length f → length f ≤ MOST_DIGITS → amount f ≡ n → n ≤ LARGEST → number f ≡ value n
-unfolding number numeral spelled
-digits-read f n only some few is fits = rw (only, le-leb 1 (length f) some, le-leb (length f) MOST_DIGITS few, is, le-leb n LARGEST fits)
-
 -- so many zeros in front of digits
 abbrev pub padded : ℕ → List ℕ → List ℕ
 padded zeros f = replicate zeros 48 ++ f
@@ -85,9 +80,6 @@ spelling-reads zeros n fits few =
     let f : List ℕ = padded zeros (decimal n) in
     digits-read f n (spelling-digits zeros n) (omega (arith, padded-length zeros (decimal n), digits-some n)) few
     (padded-amount zeros (decimal n) ∙ amount-in 10 n (omega arith)) fits
-
-pub number-decimal : (n : ℕ) → n ≤ LARGEST → number (decimal n) ≡ value n
-number-decimal n le = spelling-reads 0 n le (digits-few n)
 
 -- digits in front of a text belong to its first field
 field-digits : (c : ℕ) (f s : Text) → digits f ≡ true → fieldBy c (f ++ s) ≡ prefixed f (fieldBy c s)

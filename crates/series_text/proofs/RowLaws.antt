@@ -9,9 +9,8 @@ use borrow.Author.Tests.{eqb-true}
 use lib.Dec.{eqb}
 use lib.ListN.{length, getD, drop, length-append, length-map}
 use Rattle.series.specs.Results.{refused, value, _>>=_}
-use Rattle.series.specs.Sums.{sumBelow, listed}
+use Rattle.series.specs.Sums.{listed}
 use Rattle.series.proofs.ResultLaws.{never, value-is, stepped}
-use Rattle.series.proofs.SumLaws.{sum-mono, sum-const, sum-head}
 use Rattle.series_text.specs.Numbers.{LARGEST, MOST_DIGITS, digits, number, decimal}
 use Rattle.series_text.specs.Fields.{Text, Read, ends, field, past, fieldBy, endBefore, readFields, writeNumber}
 use Rattle.series_text.specs.Rows.{numbers, readRow, readRows, writeRow, writeRows, rowOf, rowsOf, column}

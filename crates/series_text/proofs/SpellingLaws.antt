@@ -12,9 +12,9 @@ use lib.ListN.{length}
 use Rattle.series.specs.Results.{value}
 use Rattle.series.proofs.ResultLaws.{not-refused}
 use Rattle.series_text.specs.Numbers.{LARGEST, MOST_DIGITS, digit, digits, spelled, amountFrom, amount, numeral, number, decimalIn, decimal}
-use Rattle.series_text.proofs.DecimalLaws.{decimal-small, decimal-large}
-use Rattle.series_text.proofs.FieldLaws.{and-true-parts, digit-bounds}
-use Rattle.series_text.proofs.NumberLaws.{digits-read, padded, spelling-digits, spelling-reads, number-decimal}
+use Rattle.series_text.proofs.DecimalLaws.{decimal-small, decimal-large, digits-few}
+use Rattle.series_text.proofs.FieldLaws.{digits-read, and-true-parts, digit-bounds}
+use Rattle.series_text.proofs.NumberLaws.{padded, spelling-digits, spelling-reads}
 
 -- ---- a field that reads as a number
 
@@ -106,7 +106,7 @@ spells-digits f n so = ap digits (so .text) ∙ spelling-digits (so .zeros) n
 
 -- the digits that are written are a spelling
 pub decimal-spells : (n : ℕ) → n ≤ LARGEST → Spells (decimal n) n
-decimal-spells n fits = number-is (decimal n) n (number-decimal n fits)
+decimal-spells n fits = record { zeros = 0; text = refl; few = digits-few n; fits = fits }
 
 -- ---- the digits that are written begin with no zero
 
