@@ -19,14 +19,17 @@
  *   13  bad line 2 or position line (number: 1-10 digits)
  *   14  the method is not W, P or L
  *   15  there are more than 1,024 positions in a text
+ *   16  a count of the day is above 10,000,000
+ *   17  closing purchases exceed short plus opening sales
+ *   18  more is exercised than the day's limit
  *
  * On a refusal nothing else is written: every list, every byte of a text and
  * every number behind a pointer is as it was before the call.
  *
  * A length counts elements (bytes for a text). The area of a list begins at
  * its pointer. No pointer may be null, that of a list of length 0 included.
- * An area that a call writes may not overlap with any other that it is handed;
- * two that it only reads may.
+ * An area that a call writes, a number behind a pointer among them, may not overlap
+ * with any other that it is handed; two that it only reads may.
  */
 #ifndef DILBRETH_H
 #define DILBRETH_H
@@ -38,8 +41,9 @@
 extern "C" {
 #endif
 
-/* Raised where a signature or a constant changes; 1 was the first delivery's. */
-#define DILBRETH_VERSION 2
+/* Raised where a signature or a constant changes or a call is new; 1 was the first
+   delivery's. */
+#define DILBRETH_VERSION 3
 
 /* The methods. */
 #define DILBRETH_WHEEL ((uint8_t)'W')
@@ -137,6 +141,67 @@ uint32_t dilbreth_write(uint8_t method, uint32_t exercised, uint32_t draw,
 uint32_t dilbreth_respond(const uint8_t *text, size_t text_len,
                           uint8_t *output, size_t output_len,
                           size_t *written);
+
+/* The kinds of day. Any number but 0 stands for the final trading day. */
+#define DILBRETH_ORDINARY_DAY 0
+#define DILBRETH_FINAL_DAY 1
+
+/*
+ * The day's activity of an investor, a firm or a customer, in one series: how many
+ * contracts he may exercise that day, and what he is long and short after it, before
+ * assignment. short_after, where it is not 0, is the short of his position in the
+ * series. Refuses 16 to 18 in this order.
+ *
+ * On an ordinary day the limit is opening_long plus opening_purchases; opening sales
+ * raise the short and closing purchases lower it; closing sales come after the
+ * exercises, and those beyond the long that remains count as opening sales. On the
+ * final trading day all trades come first: the limit is opening_long plus purchases
+ * less opening_short less sales, both kinds of each, not below 0.
+ *
+ * day                0 an ordinary day; any other number the final trading day
+ * opening_long       the long contracts at the opening
+ * opening_short      the short contracts at the opening
+ * opening_purchases  bought in opening purchase transactions
+ * opening_sales      sold in opening sales transactions
+ * closing_purchases  bought in closing purchase transactions, at most opening_short
+ *                    plus opening_sales
+ * closing_sales      sold in closing sales transactions
+ * exercised          the contracts to exercise, at most the limit
+ * limit              receives how many contracts may be exercised
+ * long_after         receives the long contracts after the day
+ * short_after        receives the short contracts after the day
+ *
+ * Each of the seven counts is at most 10,000,000.
+ */
+uint32_t dilbreth_process_investor(uint32_t day,
+                                   uint32_t opening_long, uint32_t opening_short,
+                                   uint32_t opening_purchases, uint32_t opening_sales,
+                                   uint32_t closing_purchases, uint32_t closing_sales,
+                                   uint32_t exercised,
+                                   uint32_t *limit,
+                                   uint32_t *long_after, uint32_t *short_after);
+
+/*
+ * The day's activity of a market-maker, who does not mark his transactions as opening
+ * or closing: how many contracts he may exercise that day, and no more than that.
+ * Refuses 16 alone.
+ *
+ * On an ordinary day the limit is opening_long plus purchases; on the final trading
+ * day it is that less opening_short less sales, not below 0.
+ *
+ * day                0 an ordinary day; any other number the final trading day
+ * opening_long       the long contracts at the opening
+ * opening_short      the short contracts at the opening
+ * purchases          the contracts bought
+ * sales              the contracts sold
+ * limit              receives how many contracts may be exercised
+ *
+ * Each of the four counts is at most 10,000,000.
+ */
+uint32_t dilbreth_process_market_maker(uint32_t day,
+                                       uint32_t opening_long, uint32_t opening_short,
+                                       uint32_t purchases, uint32_t sales,
+                                       uint32_t *limit);
 
 /* The length of the longest line of dilbreth_explain. */
 #define DILBRETH_LONGEST_EXPLANATION 50

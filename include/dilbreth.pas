@@ -9,10 +9,12 @@ unit dilbreth;
 interface
 
 const
-  DILBRETH_VERSION = 2;
+  DILBRETH_VERSION = 3;
   DILBRETH_WHEEL = Ord('W');
   DILBRETH_PRO_RATA = Ord('P');
   DILBRETH_LOTTERY = Ord('L');
+  DILBRETH_ORDINARY_DAY = 0;
+  DILBRETH_FINAL_DAY = 1;
   DILBRETH_LONGEST_EXPLANATION = 50;
 
 function dilbreth_allocate(method: Byte;
@@ -37,6 +39,18 @@ function dilbreth_write(method: Byte; exercised, draw: LongWord;
 function dilbreth_respond(text: PByte; text_len: SizeUInt;
   output: PByte; output_len: SizeUInt;
   written: PSizeUInt): LongWord; cdecl; external;
+
+function dilbreth_process_investor(day: LongWord;
+  opening_long, opening_short: LongWord;
+  opening_purchases, opening_sales: LongWord;
+  closing_purchases, closing_sales: LongWord;
+  exercised: LongWord;
+  limit, long_after, short_after: PLongWord): LongWord; cdecl; external;
+
+function dilbreth_process_market_maker(day: LongWord;
+  opening_long, opening_short: LongWord;
+  purchases, sales: LongWord;
+  limit: PLongWord): LongWord; cdecl; external;
 
 function dilbreth_explain(number: LongWord;
   line: PByte; line_len: SizeUInt): SizeUInt; cdecl; external;

@@ -1,5 +1,5 @@
-/* The archive and its header, from C: case M, starred series, series that need no draw, leading zeros, a refusal of
-   each call, the words for a refusal. */
+/* The archive and its header, from C: case M, starred series, series that need no draw, leading zeros, the circular's
+   days, a refusal of each call, the words for a refusal. */
 #include <inttypes.h>
 #include <stdio.h>
 #include <string.h>
@@ -144,6 +144,59 @@ static void refusals(void)
                                                     written == 11 && memcmp(bytes + 1, "refused\n12\n", 11) == 0);
 }
 
+struct investor {
+    const char *name;
+    uint32_t day, given[7], number, after[3];
+};
+
+/* After a refusal the numbers are kept: 77, 78, 79. */
+static const struct investor INVESTORS[] = {
+    {"X", DILBRETH_ORDINARY_DAY, {15, 0, 20, 0, 0, 10, 0}, 0, {35, 25, 0}},
+    {"X, 35 exercised", DILBRETH_ORDINARY_DAY, {15, 0, 20, 0, 0, 10, 35}, 0, {35, 0, 10}},
+    {"X, final day", DILBRETH_FINAL_DAY, {15, 0, 20, 0, 0, 10, 25}, 0, {25, 0, 0}},
+    {"X, day 256", 256, {15, 0, 20, 0, 0, 10, 0}, 0, {25, 25, 0}},
+    {"Y", DILBRETH_ORDINARY_DAY, {0, 20, 20, 0, 0, 0, 0}, 0, {20, 20, 20}},
+    {"Y, 20 exercised", DILBRETH_ORDINARY_DAY, {0, 20, 20, 0, 0, 0, 20}, 0, {20, 0, 20}},
+    {"Y, final day", DILBRETH_FINAL_DAY, {0, 20, 20, 0, 0, 0, 0}, 0, {0, 0, 0}},
+    {"seven counts", DILBRETH_ORDINARY_DAY, {1000, 200, 30, 4, 5, 60, 700}, 0, {1030, 270, 199}},
+    {"seven counts, final day", DILBRETH_FINAL_DAY, {1000, 200, 30, 4, 5, 60, 700}, 0, {771, 71, 0}},
+    {"all of the short closed", DILBRETH_ORDINARY_DAY, {1000, 200, 30, 4, 204, 400, 700}, 0, {1030, 0, 70}},
+    {"left short, final day", DILBRETH_FINAL_DAY, {0, 200, 30, 4, 5, 60, 0}, 0, {0, 0, 229}},
+    {"16 first", DILBRETH_ORDINARY_DAY, {0, 0, 0, 0, 1, 0, 10000001}, 16, {77, 78, 79}},
+    {"17 before 18", DILBRETH_ORDINARY_DAY, {0, 2, 0, 3, 6, 9, 1}, 17, {77, 78, 79}},
+    {"17, final day", DILBRETH_FINAL_DAY, {0, 2, 0, 3, 6, 9, 1}, 17, {77, 78, 79}},
+    {"18", DILBRETH_ORDINARY_DAY, {15, 0, 20, 0, 0, 10, 36}, 18, {77, 78, 79}},
+    {"18, final day", DILBRETH_FINAL_DAY, {15, 0, 20, 0, 0, 10, 26}, 18, {77, 78, 79}},
+    {"18, day 2", 2, {15, 0, 20, 0, 0, 10, 26}, 18, {77, 78, 79}},
+};
+
+static void investor(const struct investor *i)
+{
+    uint32_t limit = 77, long_after = 78, short_after = 79, number;
+    char what[48];
+
+    number = dilbreth_process_investor(i->day, i->given[0], i->given[1], i->given[2], i->given[3], i->given[4],
+                                       i->given[5], i->given[6], &limit, &long_after, &short_after);
+    snprintf(what, sizeof what, "investor, %s", i->name);
+    see(what, number == i->number && limit == i->after[0] && long_after == i->after[1] && short_after == i->after[2]);
+}
+
+static void market_makers(void)
+{
+    uint32_t limit = 77;
+
+    see("market-maker refuses 16",
+        dilbreth_process_market_maker(DILBRETH_FINAL_DAY, 0, 0, 0, 10000001, &limit) == 16 && limit == 77);
+    see("market-maker Z",
+        dilbreth_process_market_maker(DILBRETH_ORDINARY_DAY, 0, 100, 100, 100, &limit) == 0 && limit == 100);
+    see("market-maker Z, final day",
+        dilbreth_process_market_maker(DILBRETH_FINAL_DAY, 0, 100, 100, 100, &limit) == 0 && limit == 0);
+    see("market-maker, four counts",
+        dilbreth_process_market_maker(DILBRETH_ORDINARY_DAY, 1000, 20, 300, 4, &limit) == 0 && limit == 1300);
+    see("market-maker, four counts, day 4294967295",
+        dilbreth_process_market_maker(UINT32_MAX, 1000, 20, 300, 4, &limit) == 0 && limit == 1276);
+}
+
 static void words(void)
 {
     static const char NINE[] = "more is exercised than the positions hold\n", NONE[] = "no refusal has this number\n";
@@ -170,6 +223,9 @@ int main(void)
     case_m();
     leading_zeros();
     refusals();
+    for (i = 0; i < sizeof INVESTORS / sizeof INVESTORS[0]; i++)
+        investor(&INVESTORS[i]);
+    market_makers();
     words();
     printf("C: %d wrong\n", wrong);
     return wrong != 0;

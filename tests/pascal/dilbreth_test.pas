@@ -1,4 +1,5 @@
-{ The unit and the archive, from Pascal: case M through each call, series that need no draw, leading zeros, refusals. }
+{ The unit and the archive, from Pascal: case M through each call, series that need no draw, leading zeros, the
+  circular's days, refusals. }
 program dilbreth_test;
 
 {$mode objfpc}
@@ -22,6 +23,7 @@ var
   method: Byte;
   exercised, draw, total, further: LongWord;
   positions, written: SizeUInt;
+  limit, long_after, short_after: LongWord;
 
 procedure See(const what: string; holds: Boolean);
 begin
@@ -58,6 +60,30 @@ begin
   Undrawn := dilbreth_allocate(by, @accounts[0], count, @shorts[0], count, s, 0, @amounts[0], 6, @total, @further);
 end;
 
+{ An investor's day; answers 0 or the number of the refusal. }
+function Investor(day, opening_long, opening_short, opening_purchases, opening_sales, closing_purchases,
+  closing_sales, s: LongWord): LongWord;
+begin
+  limit := 999;
+  long_after := 998;
+  short_after := 997;
+  Investor := dilbreth_process_investor(day, opening_long, opening_short, opening_purchases, opening_sales,
+    closing_purchases, closing_sales, s, @limit, @long_after, @short_after);
+end;
+
+{ Whether the limit, long and short after the day are these. }
+function After(l, long, short: LongWord): Boolean;
+begin
+  After := (limit = l) and (long_after = long) and (short_after = short);
+end;
+
+{ A market-maker's day; answers 0 or the number of the refusal. }
+function MarketMaker(day, opening_long, opening_short, purchases, sales: LongWord): LongWord;
+begin
+  limit := 999;
+  MarketMaker := dilbreth_process_market_maker(day, opening_long, opening_short, purchases, sales, @limit);
+end;
+
 begin
   series := M;
   bytes := StringOfChar('x', 100);
@@ -89,6 +115,27 @@ begin
     and (First(written) = series) and (bytes[written + 1] = 'x'));
   See('respond', (dilbreth_respond(PByte(series), Length(series), PByte(bytes), Length(bytes), @written) = 0)
     and (First(written) = M_ASSIGNED));
+  See('investor X', (Investor(DILBRETH_ORDINARY_DAY, 15, 0, 20, 0, 0, 10, 35) = 0) and After(35, 0, 10));
+  See('investor X, final day', (Investor(DILBRETH_FINAL_DAY, 15, 0, 20, 0, 0, 10, 25) = 0) and After(25, 0, 0));
+  See('investor Y', (Investor(DILBRETH_ORDINARY_DAY, 0, 20, 20, 0, 0, 0, 0) = 0) and After(20, 20, 20));
+  See('investor Y, final day', (Investor(DILBRETH_FINAL_DAY, 0, 20, 20, 0, 0, 0, 0) = 0) and After(0, 0, 0));
+  See('investor, seven counts', (Investor(DILBRETH_ORDINARY_DAY, 1000, 200, 30, 4, 5, 60, 700) = 0)
+    and After(1030, 270, 199));
+  See('investor, seven counts, day 65536', (Investor(65536, 1000, 200, 30, 4, 5, 60, 700) = 0) and After(771, 71, 0));
+  See('investor, all of the short closed', (Investor(DILBRETH_ORDINARY_DAY, 1000, 200, 30, 4, 204, 400, 700) = 0)
+    and After(1030, 0, 70));
+  See('investor, left short, final day', (Investor(DILBRETH_FINAL_DAY, 0, 200, 30, 4, 5, 60, 0) = 0)
+    and After(0, 0, 229));
+  See('investor refuses 16', (Investor(DILBRETH_ORDINARY_DAY, 0, 0, 0, 0, 1, 0, 10000001) = 16)
+    and After(999, 998, 997));
+  See('investor refuses 17', (Investor(DILBRETH_FINAL_DAY, 0, 2, 0, 3, 6, 9, 1) = 17) and After(999, 998, 997));
+  See('investor refuses 18', (Investor(DILBRETH_ORDINARY_DAY, 15, 0, 20, 0, 0, 10, 36) = 18)
+    and After(999, 998, 997));
+  See('investor refuses 18 on day 2', (Investor(2, 15, 0, 20, 0, 0, 10, 26) = 18) and After(999, 998, 997));
+  See('market-maker Z', (MarketMaker(DILBRETH_ORDINARY_DAY, 0, 100, 100, 100) = 0) and (limit = 100));
+  See('market-maker Z, final day', (MarketMaker(DILBRETH_FINAL_DAY, 0, 100, 100, 100) = 0) and (limit = 0));
+  See('market-maker, four counts, day 2', (MarketMaker(2, 1000, 20, 300, 4) = 0) and (limit = 1276));
+  See('market-maker refuses 16', (MarketMaker(DILBRETH_ORDINARY_DAY, 0, 0, 0, 10000001) = 16) and (limit = 999));
   See('explain', First(dilbreth_explain(9, PByte(bytes), Length(bytes)))
     = 'more is exercised than the positions hold'#10);
   WriteLn('Pascal: ', wrong, ' wrong');

@@ -1,2 +1,3 @@
 -- Laws that the proofs of src/ cite.
 mod ExportLaws
+mod DayLaws

@@ -1,2 +1,3 @@
 -- What the exported calls answer, and what stands behind each argument then.
 pub mod Exports
+pub mod Days

@@ -1,4 +1,5 @@
 // The calls of the library for C and Rust, over numbers and slices. Each answers 0, or the number of a refusal of document 01, and then nothing behind its arguments has changed.
+mod day;
 mod explain;
 
 use assignment_text::Response;

@@ -4,7 +4,7 @@ use mathlib.Core.List.{List, [], _∷_}
 use lib.ListN.{getD}
 use Rattle.series.specs.Ascii.{ascii}
 
--- the lines of the refusals 1 to 15
+-- the lines of the refusals 1 to 18
 unfoldable pub refusals : List (List ℕ)
 refusals =
     ascii "accounts and shorts differ in length\n" ∷
@@ -21,7 +21,10 @@ refusals =
     ascii "line 1 or line 3 is missing or not exact\n" ∷
     ascii "bad line 2 or position line (number: 1-10 digits)\n" ∷
     ascii "the method is not W, P or L\n" ∷
-    ascii "there are more than 1,024 positions in a text\n" ∷ []
+    ascii "there are more than 1,024 positions in a text\n" ∷
+    ascii "a count of the day is above 10,000,000\n" ∷
+    ascii "closing purchases exceed short plus opening sales\n" ∷
+    ascii "more is exercised than the day's limit\n" ∷ []
 
 -- the line of any other number
 unfoldable pub noRefusal : List ℕ

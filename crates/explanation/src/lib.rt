@@ -41,6 +41,9 @@ pub fn explain(number: u32, line: &mut [u8]) -> usize
         13 => put(b"bad line 2 or position line (number: 1-10 digits)\n", line),
         14 => put(b"the method is not W, P or L\n", line),
         15 => put(b"there are more than 1,024 positions in a text\n", line),
+        16 => put(b"a count of the day is above 10,000,000\n", line),
+        17 => put(b"closing purchases exceed short plus opening sales\n", line),
+        18 => put(b"more is exercised than the day's limit\n", line),
         _ => put(b"no refusal has this number\n", line),
     }
 }

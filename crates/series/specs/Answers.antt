@@ -3,7 +3,7 @@ use Prim.Native.Nat.{ℕ}
 use mathlib.Core.Option.{Option, none, some}
 use Rattle.series.specs.Results.{Result, refused, value}
 use Rattle.series.specs.declared.Refusal.{Refusal}
-use Rattle.series.specs.declared.Refusal.the-variants.{LengthsDiffer, TooManyPositions, NoPositions, OutputTooShort, AccountOrder, NoShorts, TotalTooLarge, NothingExercised, ExercisedAboveTotal, DrawOutOfRange, TextTooLong, NamesLine, Malformed, UnknownMethod, TooManyLines}
+use Rattle.series.specs.declared.Refusal.the-variants.{LengthsDiffer, TooManyPositions, NoPositions, OutputTooShort, AccountOrder, NoShorts, TotalTooLarge, NothingExercised, ExercisedAboveTotal, DrawOutOfRange, TextTooLong, NamesLine, Malformed, UnknownMethod, TooManyLines, CountTooLarge, ClosingPurchasesAboveShort, ExercisedAboveLimit}
 use Rattle.series.specs.declared.Method.{Method}
 use Rattle.series.specs.declared.Answer.{Answer}
 
@@ -24,6 +24,9 @@ numberOf NamesLine = 12
 numberOf Malformed = 13
 numberOf UnknownMethod = 14
 numberOf TooManyLines = 15
+numberOf CountTooLarge = 16
+numberOf ClosingPurchasesAboveShort = 17
+numberOf ExercisedAboveLimit = 18
 
 -- what an allocation hands back: T and one further number, which its method gives a meaning; none for L without a starting place
 pub record Allocation : Type 0 where

@@ -22,7 +22,7 @@ pub struct Terms {
     pub draw: u32,
 }
 
-// Why a call is turned away, in the order of the numbers 1 to 15 of document 01.
+// Why a call is turned away, in the order of the numbers 1 to 18 of documents 01 and 02.
 pub enum Refusal {
     LengthsDiffer,
     TooManyPositions,
@@ -39,6 +39,9 @@ pub enum Refusal {
     Malformed,
     UnknownMethod,
     TooManyLines,
+    CountTooLarge,
+    ClosingPurchasesAboveShort,
+    ExercisedAboveLimit,
 }
 
 // What the allocating call answers: T with the method's one further number, or a refusal.
@@ -65,7 +68,7 @@ pub enum Answer {
     Refused(Refusal),
 }
 
-// The number of a refusal in document 01.
+// The number of a refusal in documents 01 and 02.
 pub fn number(refusal: Refusal) -> u32
     ensures { λ r. ⌜ r ≡ numberOf refusal ⌝ }
 {
@@ -85,5 +88,8 @@ pub fn number(refusal: Refusal) -> u32
         Refusal::Malformed => 13,
         Refusal::UnknownMethod => 14,
         Refusal::TooManyLines => 15,
+        Refusal::CountTooLarge => 16,
+        Refusal::ClosingPurchasesAboveShort => 17,
+        Refusal::ExercisedAboveLimit => 18,
     }
 }

@@ -5,10 +5,11 @@ use std::process::Stdio;
 use std::time::{Duration, Instant};
 
 use compare::make::{self, Series};
-use compare::plain;
 use compare::program::{self, TextFile};
 use compare::random::Random;
+use compare::{days, plain};
 use dilbreth::calls;
+use reference::day::{Investor, MarketMaker};
 
 // Nanoseconds of one call of each: the median of samples that each last long enough to be measured. The samples are taken in turn, so that a
 // burst of other work on the machine weighs on each alike.
@@ -284,6 +285,51 @@ fn texts() {
     reading(&make::spelled(&text, |_, _| 10), 1_024, "   (every number in ten digits)");
 }
 
+fn day_row(call: &str, day: &str, mut library: impl FnMut(), mut plain: impl FnMut()) {
+    let [library, plain] = medians([&mut library, &mut plain]);
+    println!("{call:<14}{day:<10}{:>12}{:>12}{:>12.2}", time(library), time(plain), library / plain);
+}
+
+fn whole_days() {
+    println!();
+    println!("The day's activity: 1,024 varied days that are accepted, a call for each.");
+    println!("{:<14}{:<10}{:>12}{:>12}{:>12}", "call", "day", "library", "plain", "to plain");
+    for (name, day) in [("ordinary", 0), ("final", 1)] {
+        let mut random = Random::new(0xBE7C_6000);
+        let made = std::iter::repeat_with(|| (days::investor(&mut random, day), days::market_maker(&mut random)));
+        let accepted = made.filter(|&(investor, market_maker)| {
+            plain::process_investor(day, investor).is_ok() && plain::process_market_maker(day, market_maker).is_ok()
+        });
+        let (investors, market_makers): (Vec<Investor>, Vec<MarketMaker>) = accepted.take(1_024).unzip();
+        let library = || {
+            for &counts in black_box(&investors) {
+                let mut after = [0; 3];
+                assert_eq!(compare::investor(day, counts, &mut after), 0);
+                black_box(after);
+            }
+        };
+        let plain = || {
+            for &counts in black_box(&investors) {
+                black_box(plain::process_investor(day, counts).expect("a day"));
+            }
+        };
+        day_row("investor", name, library, plain);
+        let library = || {
+            for &counts in black_box(&market_makers) {
+                let mut limit = 0;
+                assert_eq!(compare::market_maker(day, counts, &mut limit), 0);
+                black_box(limit);
+            }
+        };
+        let plain = || {
+            for &counts in black_box(&market_makers) {
+                black_box(plain::process_market_maker(day, counts).expect("a day"));
+            }
+        };
+        day_row("market-maker", name, library, plain);
+    }
+}
+
 fn whole_runs() {
     println!();
     if !program::path().exists() {
@@ -322,5 +368,6 @@ fn main() {
     }
     allocations();
     texts();
+    whole_days();
     whole_runs();
 }

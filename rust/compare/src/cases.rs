@@ -2,6 +2,8 @@
 
 use std::fmt::Write;
 
+use reference::day::{Investor, MarketMaker};
+
 use crate::program::{self, Feed};
 
 fn list(numbers: &[u32]) -> String {
@@ -47,6 +49,14 @@ pub fn respond(text: &[u8], room: usize) -> String {
     format!("respond {} {room}", hex(text))
 }
 
+pub fn process_investor(day: u32, counts: Investor) -> String {
+    format!("process_investor {day} {}", list(&counts))
+}
+
+pub fn process_market_maker(day: u32, counts: MarketMaker) -> String {
+    format!("process_market_maker {day} {}", list(&counts))
+}
+
 pub fn explain(number: u32, line: &[u8], room: usize) -> String {
     format!("explain {number} {} {room}", hex(line))
 }
@@ -79,6 +89,10 @@ fn to_list(word: &str) -> Vec<u32> {
     word.split(',').map(|n| n.parse().expect("a number")).collect()
 }
 
+fn to_counts<const N: usize>(word: &str) -> [u32; N] {
+    to_list(word).try_into().expect("the counts of a day")
+}
+
 fn to_bytes(word: &str) -> Vec<u8> {
     if word == "-" {
         return Vec::new();
@@ -96,6 +110,8 @@ pub fn again(line: &str) -> Result<bool, String> {
         "read" => crate::read(&to_bytes(words[1]), room(2), room(3)),
         "write" => crate::write(to_method(words[1]), n(2), n(3), &to_list(words[4]), &to_list(words[5]), room(6)),
         "respond" => crate::respond(&to_bytes(words[1]), room(2)),
+        "process_investor" => crate::process_investor(n(1), to_counts(words[2])).map(|number| number == 0),
+        "process_market_maker" => crate::process_market_maker(n(1), to_counts(words[2])).map(|number| number == 0),
         "explain" => crate::explain(n(1), &to_bytes(words[2]), room(3)),
         "assign" => program::compare(&to_bytes(words[2]), to_feed(words[1])),
         other => panic!("no such call: {other}"),

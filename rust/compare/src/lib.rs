@@ -3,12 +3,14 @@
 //! differs is printed as a line that `cargo run --release --example again` takes.
 
 pub mod cases;
+pub mod days;
 pub mod make;
 pub mod plain;
 pub mod program;
 pub mod random;
 
 use dilbreth::calls;
+use reference::day::{AfterDay, Investor, MarketMaker};
 
 // What the outputs hold before a call: no amount, no account in use, no byte of a text.
 const EDGE: usize = 8;
@@ -169,6 +171,105 @@ pub fn respond(text: &[u8], room: usize) -> Result<bool, String> {
         cases::respond(text, room),
         output.first_difference(written, kept_byte)
     ))
+}
+
+/// The investor's call of the library; `after` receives limit, long and short.
+pub fn investor(day: u32, counts: Investor, after: &mut [u32; 3]) -> u32 {
+    let [opening_long, opening_short, opening_purchases, opening_sales, closing_purchases, closing_sales, exercised] =
+        counts;
+    let [limit, long, short] = after;
+    calls::process_investor(
+        day,
+        opening_long,
+        opening_short,
+        opening_purchases,
+        opening_sales,
+        closing_purchases,
+        closing_sales,
+        exercised,
+        limit,
+        long,
+        short,
+    )
+}
+
+/// The market-maker's call of the library.
+pub fn market_maker(day: u32, counts: MarketMaker, limit: &mut u32) -> u32 {
+    let [opening_long, opening_short, purchases, sales] = counts;
+    calls::process_market_maker(day, opening_long, opening_short, purchases, sales, limit)
+}
+
+// No contract is lost, and on the final day nobody is left both long and short.
+fn balanced(day: u32, counts: Investor, [_, long, short]: [u32; 3]) -> bool {
+    let [opening_long, opening_short, opening_purchases, opening_sales, closing_purchases, closing_sales, exercised] =
+        counts.map(u64::from);
+    let sales = opening_sales + closing_sales;
+    let purchases = opening_purchases + closing_purchases;
+    u64::from(long) + opening_short + sales + exercised == u64::from(short) + opening_long + purchases
+        && (day == 0 || long == 0 || short == 0)
+}
+
+// The limit is the same where nothing is exercised, and on an ordinary day no lower than on the final one.
+fn limited(day: u32, counts: Investor, limit: u32) -> bool {
+    let [same, ordinary, last] = [day, 0, 1].map(|day| {
+        let (mut counts, mut after) = (counts, [0; 3]);
+        counts[6] = 0;
+        (investor(day, counts, &mut after) == 0).then_some(after[0])
+    });
+    same == Some(limit) && last.is_some() && ordinary >= last
+}
+
+/// The investor's call, compared; answers 0 or the number of the refusal.
+pub fn process_investor(day: u32, counts: Investor) -> Result<u32, String> {
+    let expected = reference::day::process_investor(day, counts);
+    let mut lent = Lent::new(3, kept_number);
+    let after: &mut [u32; 3] = lent.slice().try_into().expect("three numbers");
+    let number = investor(day, counts, after);
+    let found = *after;
+    let (want, written) = match expected {
+        Ok(AfterDay { limit, long, short }) => (0, vec![limit, long, short]),
+        Err(n) => (n, vec![]),
+    };
+    if number != want || !lent.is(&written, kept_number) {
+        return Err(format!(
+            "{}\n  expected {want} and {written:?}, found {number} and {found:?}; limit, long, short differ {}",
+            cases::process_investor(day, counts),
+            lent.first_difference(&written, kept_number)
+        ));
+    }
+    if number == 0 && !(balanced(day, counts, found) && limited(day, counts, found[0])) {
+        let case = cases::process_investor(day, counts);
+        return Err(format!("{case}\n  both give {found:?}, against the laws of a day"));
+    }
+    Ok(number)
+}
+
+/// The market-maker's call, compared; answers 0 or the number of the refusal.
+pub fn process_market_maker(day: u32, counts: MarketMaker) -> Result<u32, String> {
+    let expected = reference::day::process_market_maker(day, counts);
+    let mut lent = Lent::new(1, kept_number);
+    let number = market_maker(day, counts, &mut lent.slice()[0]);
+    let found = lent.slice()[0];
+    let (want, written) = match expected {
+        Ok(limit) => (0, vec![limit]),
+        Err(n) => (n, vec![]),
+    };
+    if number != want || !lent.is(&written, kept_number) {
+        return Err(format!(
+            "{}\n  expected {want} and {written:?}, found {number} and {found}; the limit differs {}",
+            cases::process_market_maker(day, counts),
+            lent.first_difference(&written, kept_number)
+        ));
+    }
+    let [ordinary, last] = [0, 1].map(|day| {
+        let mut limit = 0;
+        (market_maker(day, counts, &mut limit) == 0).then_some(limit)
+    });
+    if number == 0 && !(last.is_some() && ordinary >= last) {
+        let case = cases::process_market_maker(day, counts);
+        return Err(format!("{case}\n  both give {found}, against the laws of a day: {ordinary:?}, {last:?}"));
+    }
+    Ok(number)
 }
 
 /// The call for the words of a number; answers whether the line fitted.

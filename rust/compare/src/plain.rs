@@ -451,3 +451,45 @@ pub fn write(
     }
     Ok(at)
 }
+
+const MOST: u32 = 10_000_000;
+
+/// Limit, long and short after the day, or a refusal; a call, as the library's is one.
+#[inline(never)]
+pub fn process_investor(day: u32, counts: [u32; 7]) -> Result<(u32, u32, u32), u32> {
+    let [long, short, opening_purchases, opening_sales, closing_purchases, closing_sales, exercised] = counts;
+    if counts.iter().any(|&count| count > MOST) {
+        return Err(16);
+    }
+    let to_close = short + opening_sales;
+    if closing_purchases > to_close {
+        return Err(17);
+    }
+    if day == 0 {
+        let limit = long + opening_purchases;
+        if exercised > limit {
+            return Err(18);
+        }
+        let remaining = limit - exercised;
+        let beyond = closing_sales.saturating_sub(remaining);
+        return Ok((limit, remaining.saturating_sub(closing_sales), to_close - closing_purchases + beyond));
+    }
+    let bought = long + opening_purchases + closing_purchases;
+    let sold = to_close + closing_sales;
+    let limit = bought.saturating_sub(sold);
+    if exercised > limit {
+        return Err(18);
+    }
+    Ok((limit, limit - exercised, sold.saturating_sub(bought)))
+}
+
+/// The limit, or a refusal; a call too.
+#[inline(never)]
+pub fn process_market_maker(day: u32, counts: [u32; 4]) -> Result<u32, u32> {
+    let [long, short, purchases, sales] = counts;
+    if counts.iter().any(|&count| count > MOST) {
+        return Err(16);
+    }
+    let bought = long + purchases;
+    Ok(if day == 0 { bought } else { bought.saturating_sub(short + sales) })
+}

@@ -1,9 +1,11 @@
-// The examples: what the program prints for each, that README.md shows it, and the script that books only a whole list.
+// The examples: what the program prints for each, that README.md shows it, the script that books only a whole list, and
+// the program of the day's activity.
 
-use std::fs;
+use std::fs::{self, File};
 use std::os::unix::fs::PermissionsExt;
 use std::path::{Path, PathBuf};
-use std::process::{Command, Output};
+use std::process::{Command, Output, Stdio};
+use std::sync::OnceLock;
 
 use compare::program::{self, Feed};
 
@@ -26,7 +28,7 @@ fn shown_after(words: &str) -> String {
 
 #[test]
 fn every_example_prints_what_is_stored_and_shown() {
-    let names = ["wheel", "pro-rata", "lottery", "leading-zeros", "whole", "refused"];
+    let names = ["wheel", "pro-rata", "lottery", "leading-zeros", "whole", "after-day", "refused"];
     for name in names {
         let stored = file(&format!("{name}.out"));
         let found = program::run(file(&format!("{name}.txt")).as_bytes(), Feed::Pipe);
@@ -45,7 +47,7 @@ fn book(assign: &Path, text: &str) -> Output {
 
 #[test]
 fn only_a_whole_list_is_booked() {
-    for name in ["wheel", "pro-rata", "lottery", "leading-zeros", "whole"] {
+    for name in ["wheel", "pro-rata", "lottery", "leading-zeros", "whole", "after-day"] {
         let found = book(&program::path(), &format!("{name}.txt"));
         assert!(found.status.success() && found.stderr.is_empty(), "{name}");
         assert_eq!(String::from_utf8(found.stdout).unwrap(), file(&format!("{name}.out")), "{name}");
@@ -78,5 +80,158 @@ fn any_other_list_is_not_booked() {
     for then in ["echo not whole >&2", "kill -9 $$"] {
         let found = book(&stand_in("spoken", &list, then), "lottery.txt");
         assert_eq!((found.status.code(), found.stdout.len()), (Some(1), 0), "{then}");
+    }
+}
+
+// examples/day.c over the archive: DILBRETH_LIB, or target/staticlib of the repository.
+fn day_program() -> &'static PathBuf {
+    static PROGRAM: OnceLock<PathBuf> = OnceLock::new();
+    PROGRAM.get_or_init(|| {
+        let program = PathBuf::from(env!("CARGO_TARGET_TMPDIR")).join("day");
+        let lib = match std::env::var_os("DILBRETH_LIB") {
+            Some(given) => PathBuf::from(given),
+            None => folder().join("../target/staticlib"),
+        };
+        let built = Command::new("gcc")
+            .args(["-std=c99", "-Wall", "-Wextra", "-Werror", "-pedantic", "-O1", "-I"])
+            .arg(folder().join("../include"))
+            .arg(folder().join("day.c"))
+            .arg(lib.join("libdilbreth.a"))
+            .arg("-o")
+            .arg(&program)
+            .status()
+            .expect("gcc");
+        assert!(built.success());
+        program
+    })
+}
+
+// Exit status, standard output and standard error of a command.
+fn day(words: &str) -> (Option<i32>, String, String) {
+    let found = Command::new(day_program()).args(words.split(' ').filter(|word| !word.is_empty())).output().unwrap();
+    let text = |bytes| String::from_utf8(bytes).unwrap();
+    (found.status.code(), text(found.stdout), text(found.stderr))
+}
+
+#[test]
+fn days_of_the_circular() {
+    for (words, printed) in [
+        ("investor ordinary 15 0 20 0 0 10 0", "limit,long,short\n35,25,0\n"),
+        ("investor ordinary 15 0 20 0 0 10 35", "limit,long,short\n35,0,10\n"),
+        ("investor final 15 0 20 0 0 10 25", "limit,long,short\n25,0,0\n"),
+        ("investor ordinary 0 20 20 0 0 0 0", "limit,long,short\n20,20,20\n"),
+        ("investor ordinary 0 20 20 0 0 0 20", "limit,long,short\n20,0,20\n"),
+        ("investor final 0 20 20 0 0 0 0", "limit,long,short\n0,0,0\n"),
+        ("market-maker ordinary 0 100 100 100", "limit\n100\n"),
+        ("market-maker final 0 100 100 100", "limit\n0\n"),
+        // Each count in its place.
+        ("investor ordinary 1000 200 30 4 5 60 700", "limit,long,short\n1030,270,199\n"),
+        ("investor final 1000 200 30 4 5 60 700", "limit,long,short\n771,71,0\n"),
+        ("investor ordinary 1000 200 30 4 204 400 700", "limit,long,short\n1030,0,70\n"),
+        ("investor final 0 200 30 4 5 60 0", "limit,long,short\n0,0,229\n"),
+        ("market-maker ordinary 1000 20 300 4", "limit\n1300\n"),
+        ("market-maker final 1000 20 300 4", "limit\n1276\n"),
+        // The largest counts, and leading zeros.
+        ("market-maker ordinary 10000000 0 0010000000 0", "limit\n20000000\n"),
+        ("investor ordinary 0000000015 00 020 0 0 10 035", "limit,long,short\n35,0,10\n"),
+    ] {
+        assert_eq!(day(words), (Some(0), printed.to_string(), String::new()), "{words}");
+    }
+}
+
+#[test]
+fn refused_days() {
+    for (words, number) in [
+        ("investor ordinary 15 0 20 0 0 10 36", 18),
+        ("investor final 15 0 20 0 0 10 26", 18),
+        ("investor final 0 20 20 0 0 0 1", 18),
+        ("investor ordinary 0 2 0 3 6 9 1", 17),
+        ("investor final 0 2 0 3 6 9 1", 17),
+        ("investor ordinary 10000001 0 0 0 1 0 0", 16),
+        ("investor ordinary 0 0 0 0 0 0 4294967295", 16),
+        ("market-maker ordinary 0 10000001 0 0", 16),
+        ("market-maker final 0 0 0 4294967295", 16),
+    ] {
+        let spoken = format!("day: refused, {number}: {}\n", dilbreth::explain(number));
+        assert_eq!(day(words), (Some(1), format!("refused\n{number}\n"), spoken), "{words}");
+    }
+}
+
+#[test]
+fn wrong_arguments_of_a_day() {
+    let mut wrong = [
+        "",
+        "investor",
+        "investor ordinary",
+        "investor ordinary 15 0 20 0 0 10",
+        "investor ordinary 15 0 20 0 0 10 35 0",
+        "market-maker ordinary 0 100 100",
+        "market-maker ordinary 0 100 100 100 0",
+        "Investor ordinary 15 0 20 0 0 10 35",
+        "firm ordinary 15 0 20 0 0 10 35",
+        "investor 0 15 0 20 0 0 10 35",
+        "investor finally 15 0 20 0 0 10 35",
+        "final investor 15 0 20 0 0 10 35",
+    ]
+    .map(String::from)
+    .to_vec();
+    // As each count of both commands.
+    for count in ["-1", "+1", "1x", "x", "0x1", "1.0", "1,0", "4294967296", "4294967311", "9999999999", "00000000001"] {
+        for (name, counts) in [("investor", 7), ("market-maker", 4)] {
+            for at in 0..counts {
+                let mut given = vec!["1"; counts];
+                given[at] = count;
+                wrong.push(format!("{name} ordinary {}", given.join(" ")));
+            }
+        }
+    }
+    for words in wrong {
+        let (status, printed, spoken) = day(&words);
+        assert_eq!((status, printed.as_str()), (Some(2), ""), "{words}");
+        assert!(spoken.starts_with("usage: day investor ordinary|final OPENING_LONG "), "{words}: {spoken}");
+    }
+    for count in ["", " 1", "1 ", "1\n", "\u{661}"] {
+        let found = Command::new(day_program()).args(["market-maker", "final", "1", "1", count, "1"]).output().unwrap();
+        assert_eq!((found.status.code(), found.stdout.len()), (Some(2), 0), "{count:?}");
+    }
+}
+
+#[test]
+fn a_day_that_cannot_be_written() {
+    for words in ["market-maker final 9 1 1 1", "investor ordinary 0 0 0 0 0 0 0", "market-maker final 9 1 1 10000001"]
+    {
+        let full = File::options().write(true).open("/dev/full").unwrap();
+        let found = Command::new(day_program()).args(words.split(' ')).stdout(Stdio::from(full)).output().unwrap();
+        let spoken = String::from_utf8(found.stderr).unwrap();
+        assert_eq!((found.status.code(), spoken.as_str()), (Some(1), "day: the output could not be written\n"));
+    }
+}
+
+// The commands `./day ..` of README.md, each with the lines below it.
+fn shown_days() -> Vec<(&'static str, String)> {
+    let mut shown: Vec<(&str, String)> = Vec::new();
+    let mut below = false;
+    for line in README.lines() {
+        let Some(line) = line.strip_prefix("    ") else {
+            below = false;
+            continue;
+        };
+        if let Some(words) = line.strip_prefix("./day ") {
+            shown.push((words, String::new()));
+            below = true;
+        } else if below {
+            shown.last_mut().unwrap().1 += &format!("{line}\n");
+        }
+    }
+    shown
+}
+
+#[test]
+fn every_day_of_the_readme() {
+    let shown = shown_days();
+    assert!(shown.len() >= 5, "README.md has {} commands `./day`", shown.len());
+    for (words, printed) in shown {
+        assert!(!printed.is_empty(), "./day {words}");
+        assert_eq!(day(words).1, printed, "./day {words}");
     }
 }

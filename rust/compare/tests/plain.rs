@@ -1,7 +1,7 @@
 // What the benchmarks measure against gives the same answers.
 
 use compare::random::Random;
-use compare::{cases, make, plain, Count};
+use compare::{cases, days, make, plain, Count};
 
 #[test]
 fn plain_allocation() {
@@ -104,4 +104,28 @@ fn plain_numbers() {
     for field in 0..make::FIELDS {
         assert_eq!(read(&make::in_field(field, ""), 1), Err(13));
     }
+}
+
+#[test]
+fn plain_days() {
+    let mut random = Random::new(0xBE7C_0003);
+    let mut count = Count::new("plain days");
+    let mut answers = [0; 4];
+    for case in 0..40_000 {
+        let day = if case % 2 == 0 { 0 } else { random.pick(&[1, 2, u32::MAX]) };
+        let counts = days::investor(&mut random, day);
+        let expected = reference::day::process_investor(day, counts);
+        let found = plain::process_investor(day, counts);
+        let found = found.map(|(limit, long, short)| reference::day::AfterDay { limit, long, short });
+        assert_eq!(found, expected, "{}", cases::process_investor(day, counts));
+        count.case(Ok(expected.is_ok()));
+        answers[expected.map_or_else(|number| number as usize - 15, |_| 0)] += 1;
+        let counts = days::market_maker(&mut random);
+        let expected = reference::day::process_market_maker(day, counts);
+        let shown = cases::process_market_maker(day, counts);
+        assert_eq!(plain::process_market_maker(day, counts), expected, "{shown}");
+        count.case(Ok(expected.is_ok()));
+    }
+    count.print();
+    assert!(!answers.contains(&0));
 }

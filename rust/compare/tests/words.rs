@@ -1,6 +1,7 @@
 // The words for the refusals: README.md and the header show those of the library.
 
 use compare::Count;
+use dilbreth::Day;
 
 const README: &str = include_str!("../../../README.md");
 const HEADER: &str = include_str!("../../../include/dilbreth.h");
@@ -32,7 +33,7 @@ fn header_constant(name: &str) -> u32 {
 
 #[test]
 fn tables_show_the_words() {
-    let words: Vec<(u32, String)> = (1..=15).map(|number| (number, dilbreth::explain(number))).collect();
+    let words: Vec<(u32, String)> = (1..=18).map(|number| (number, dilbreth::explain(number))).collect();
     assert_eq!(readme_table(), words);
     assert_eq!(header_table(), words);
 }
@@ -58,7 +59,10 @@ fn every_number_and_output() {
 #[test]
 fn one_version() {
     assert_eq!(header_constant("DILBRETH_VERSION"), dilbreth::VERSION);
-    for name in ["DILBRETH_VERSION", "DILBRETH_LONGEST_EXPLANATION"] {
+    assert_eq!(header_constant("DILBRETH_ORDINARY_DAY"), Day::Ordinary.number());
+    assert_eq!(header_constant("DILBRETH_FINAL_DAY"), Day::Final.number());
+    let names = ["DILBRETH_VERSION", "DILBRETH_ORDINARY_DAY", "DILBRETH_FINAL_DAY", "DILBRETH_LONGEST_EXPLANATION"];
+    for name in names {
         let line = format!("  {name} = {};\n", header_constant(name));
         assert!(UNIT.contains(&line), "include/dilbreth.pas has no {line:?}");
     }

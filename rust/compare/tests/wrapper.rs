@@ -1,6 +1,6 @@
-// The safe wrapper, by the series with known amounts.
+// The safe wrapper, by the series with known amounts and the circular's days.
 
-use dilbreth::{Allocated, Method, Refused, Terms};
+use dilbreth::{AfterDay, Allocated, Day, Investor, MarketMaker, Method, Refused, Terms};
 
 type Known = (Method, &'static [u32], u32, u32, &'static [u32], u32);
 
@@ -65,6 +65,57 @@ fn leading_zeros() {
     let text = b"method,exercised,draw\nL,0000000013,04855\naccount,short\n0001,0036\n";
     let length = dilbreth::respond(text, &mut bytes).unwrap();
     assert_eq!(&bytes[..length], b"account,assigned\n1,13\n");
+}
+
+#[test]
+fn days_of_the_circular() {
+    let after = |limit, long, short| Ok(AfterDay { limit, long, short });
+    let x = Investor { opening_long: 15, opening_purchases: 20, closing_sales: 10, ..Investor::default() };
+    assert_eq!(dilbreth::process_investor(Day::Ordinary, x), after(35, 25, 0));
+    assert_eq!(dilbreth::process_investor(Day::Ordinary, Investor { exercised: 35, ..x }), after(35, 0, 10));
+    assert_eq!(dilbreth::process_investor(Day::Ordinary, Investor { exercised: 36, ..x }), Err(Refused(18)));
+    assert_eq!(dilbreth::process_investor(Day::Final, Investor { exercised: 25, ..x }), after(25, 0, 0));
+    assert_eq!(dilbreth::process_investor(Day::Final, Investor { exercised: 26, ..x }), Err(Refused(18)));
+    let y = Investor { opening_short: 20, opening_purchases: 20, ..Investor::default() };
+    assert_eq!(dilbreth::process_investor(Day::Ordinary, y), after(20, 20, 20));
+    assert_eq!(dilbreth::process_investor(Day::Ordinary, Investor { exercised: 20, ..y }), after(20, 0, 20));
+    assert_eq!(dilbreth::process_investor(Day::Final, y), after(0, 0, 0));
+    assert_eq!(dilbreth::process_investor(Day::Final, Investor { exercised: 1, ..y }), Err(Refused(18)));
+    let z = MarketMaker { opening_short: 100, purchases: 100, sales: 100, ..MarketMaker::default() };
+    assert_eq!(dilbreth::process_market_maker(Day::Ordinary, z), Ok(100));
+    assert_eq!(dilbreth::process_market_maker(Day::Final, z), Ok(0));
+}
+
+// No two counts are equal, so each must reach its place.
+#[test]
+fn every_count_of_a_day() {
+    let given = Investor {
+        opening_long: 1_000,
+        opening_short: 200,
+        opening_purchases: 30,
+        opening_sales: 4,
+        closing_purchases: 5,
+        closing_sales: 60,
+        exercised: 700,
+    };
+    let after = |limit, long, short| Ok(AfterDay { limit, long, short });
+    assert_eq!(dilbreth::process_investor(Day::Ordinary, given), after(1_030, 270, 199));
+    assert_eq!(dilbreth::process_investor(Day::Final, given), after(771, 71, 0));
+    // All of the short is closed; left short on the final day.
+    let closed = Investor { closing_purchases: 204, closing_sales: 400, ..given };
+    assert_eq!(dilbreth::process_investor(Day::Ordinary, closed), after(1_030, 0, 70));
+    let short = Investor { opening_long: 0, exercised: 0, ..given };
+    assert_eq!(dilbreth::process_investor(Day::Final, short), after(0, 0, 229));
+    let refused = Investor { closing_purchases: 205, exercised: 1_031, ..given };
+    assert_eq!(dilbreth::process_investor(Day::Ordinary, refused), Err(Refused(17)));
+    assert_eq!(dilbreth::process_investor(Day::Final, refused), Err(Refused(17)));
+    let refused = Investor { exercised: 10_000_001, ..refused };
+    assert_eq!(dilbreth::process_investor(Day::Ordinary, refused), Err(Refused(16)));
+    let given = MarketMaker { opening_long: 1_000, opening_short: 20, purchases: 300, sales: 4 };
+    assert_eq!(dilbreth::process_market_maker(Day::Ordinary, given), Ok(1_300));
+    assert_eq!(dilbreth::process_market_maker(Day::Final, given), Ok(1_276));
+    let refused = MarketMaker { sales: 10_000_001, ..given };
+    assert_eq!(dilbreth::process_market_maker(Day::Ordinary, refused), Err(Refused(16)));
 }
 
 #[test]

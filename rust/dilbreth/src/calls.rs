@@ -88,6 +88,48 @@ pub fn respond(text: &[u8], output: &mut [u8], written: &mut usize) -> u32 {
     unsafe { ffi::dilbreth_respond(text.as_ptr(), text.len(), output.as_mut_ptr(), output.len(), written) }
 }
 
+#[allow(clippy::too_many_arguments)]
+pub fn process_investor(
+    day: u32,
+    opening_long: u32,
+    opening_short: u32,
+    opening_purchases: u32,
+    opening_sales: u32,
+    closing_purchases: u32,
+    closing_sales: u32,
+    exercised: u32,
+    limit: &mut u32,
+    long_after: &mut u32,
+    short_after: &mut u32,
+) -> u32 {
+    unsafe {
+        ffi::dilbreth_process_investor(
+            day,
+            opening_long,
+            opening_short,
+            opening_purchases,
+            opening_sales,
+            closing_purchases,
+            closing_sales,
+            exercised,
+            limit,
+            long_after,
+            short_after,
+        )
+    }
+}
+
+pub fn process_market_maker(
+    day: u32,
+    opening_long: u32,
+    opening_short: u32,
+    purchases: u32,
+    sales: u32,
+    limit: &mut u32,
+) -> u32 {
+    unsafe { ffi::dilbreth_process_market_maker(day, opening_long, opening_short, purchases, sales, limit) }
+}
+
 /// The length of the line for the number of a refusal; the line is written where it fits.
 pub fn explain(number: u32, line: &mut [u8]) -> usize {
     unsafe { ffi::dilbreth_explain(number, line.as_mut_ptr(), line.len()) }

@@ -49,5 +49,28 @@ extern "C" {
         written: *mut usize,
     ) -> u32;
 
+    pub fn dilbreth_process_investor(
+        day: u32,
+        opening_long: u32,
+        opening_short: u32,
+        opening_purchases: u32,
+        opening_sales: u32,
+        closing_purchases: u32,
+        closing_sales: u32,
+        exercised: u32,
+        limit: *mut u32,
+        long_after: *mut u32,
+        short_after: *mut u32,
+    ) -> u32;
+
+    pub fn dilbreth_process_market_maker(
+        day: u32,
+        opening_long: u32,
+        opening_short: u32,
+        purchases: u32,
+        sales: u32,
+        limit: *mut u32,
+    ) -> u32;
+
     pub fn dilbreth_explain(number: u32, line: *mut u8, line_len: usize) -> usize;
 }

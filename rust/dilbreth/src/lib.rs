@@ -6,7 +6,7 @@ mod ffi;
 use std::fmt;
 
 /// DILBRETH_VERSION of the header.
-pub const VERSION: u32 = 2;
+pub const VERSION: u32 = 3;
 
 #[derive(Clone, Copy, Debug, PartialEq, Eq)]
 pub enum Method {
@@ -30,6 +30,22 @@ impl Method {
             b'P' => Some(Method::ProRata),
             b'L' => Some(Method::Lottery),
             _ => None,
+        }
+    }
+}
+
+#[derive(Clone, Copy, Debug, PartialEq, Eq)]
+pub enum Day {
+    Ordinary,
+    /// The final trading day.
+    Final,
+}
+
+impl Day {
+    pub fn number(self) -> u32 {
+        match self {
+            Day::Ordinary => 0,
+            Day::Final => 1,
         }
     }
 }
@@ -71,6 +87,38 @@ pub struct Terms {
     pub exercised: u32,
     pub draw: u32,
     pub positions: usize,
+}
+
+/// What an investor, a firm or a customer, gives of his day in one series, in contracts.
+#[derive(Clone, Copy, Debug, Default, PartialEq, Eq)]
+pub struct Investor {
+    pub opening_long: u32,
+    pub opening_short: u32,
+    pub opening_purchases: u32,
+    pub opening_sales: u32,
+    /// At most the opening short and the opening sales.
+    pub closing_purchases: u32,
+    pub closing_sales: u32,
+    /// The contracts to exercise, at most the limit.
+    pub exercised: u32,
+}
+
+/// What a market-maker gives, who does not mark his transactions as opening or closing.
+#[derive(Clone, Copy, Debug, Default, PartialEq, Eq)]
+pub struct MarketMaker {
+    pub opening_long: u32,
+    pub opening_short: u32,
+    pub purchases: u32,
+    pub sales: u32,
+}
+
+/// What an investor gets of his day, before assignment.
+#[derive(Clone, Copy, Debug, PartialEq, Eq)]
+pub struct AfterDay {
+    /// How many contracts may be exercised.
+    pub limit: u32,
+    pub long: u32,
+    pub short: u32,
 }
 
 /// Assigns the exercised contracts; `amounts` receives those of each position in list order. The draw is not judged
@@ -115,6 +163,33 @@ pub fn respond(text: &[u8], output: &mut [u8]) -> Result<usize, Refused> {
     let mut written = 0;
     accepted(calls::respond(text, output, &mut written))?;
     Ok(written)
+}
+
+/// The day's activity of an investor: the limit, and what he is long and short after the day.
+pub fn process_investor(day: Day, given: Investor) -> Result<AfterDay, Refused> {
+    let (mut limit, mut long, mut short) = (0, 0, 0);
+    accepted(calls::process_investor(
+        day.number(),
+        given.opening_long,
+        given.opening_short,
+        given.opening_purchases,
+        given.opening_sales,
+        given.closing_purchases,
+        given.closing_sales,
+        given.exercised,
+        &mut limit,
+        &mut long,
+        &mut short,
+    ))?;
+    Ok(AfterDay { limit, long, short })
+}
+
+/// The day's activity of a market-maker: how many contracts he may exercise.
+pub fn process_market_maker(day: Day, given: MarketMaker) -> Result<u32, Refused> {
+    let MarketMaker { opening_long, opening_short, purchases, sales } = given;
+    let mut limit = 0;
+    accepted(calls::process_market_maker(day.number(), opening_long, opening_short, purchases, sales, &mut limit))?;
+    Ok(limit)
 }
 
 /// The words for the number of a refusal, without a line end.

@@ -1,6 +1,8 @@
 //! Exercise assignment, written step by step from the document.
 //! Slow on purpose: it is what the library is compared with.
 
+pub mod day;
+
 use std::cmp::Reverse;
 
 pub const MOST_POSITIONS: usize = 4_096;

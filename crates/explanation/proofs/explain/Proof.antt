@@ -103,6 +103,24 @@ slice-aggregate-put-16 c = search needs
 put-requires-16 : tie.Need-put-requires-16
 put-requires-16 c κs = search needs
 
+slice-aggregate-put-17 : tie.Need-slice-aggregate-put-17
+slice-aggregate-put-17 c = search needs
+
+put-requires-17 : tie.Need-put-requires-17
+put-requires-17 c κs = search needs
+
+slice-aggregate-put-18 : tie.Need-slice-aggregate-put-18
+slice-aggregate-put-18 c = search needs
+
+put-requires-18 : tie.Need-put-requires-18
+put-requires-18 c κs = search needs
+
+slice-aggregate-put-19 : tie.Need-slice-aggregate-put-19
+slice-aggregate-put-19 c = search needs
+
+put-requires-19 : tie.Need-put-requires-19
+put-requires-19 c κs = search needs
+
 same-length : tie.Need-same-length
 same-length c = search needs
 
@@ -212,8 +230,29 @@ same-length-16 : tie.Need-same-length-16
 same-length-16 c = search needs
 
 returns-16 : tie.Need-returns-16
+unfolding explanation refusals ascii
+returns-16 c = let a = c .before .before .before .before .before .before .before .args in told (a .number) (a .line .now) (explanation 16) _ _ (ap explanation (c .before .before .before .before .before .match .keys16)) (c .before .before .put16 .ensures .0) (c .before .before .put16 .ensures .1)
+
+same-length-17 : tie.Need-same-length-17
+same-length-17 c = search needs
+
+returns-17 : tie.Need-returns-17
+unfolding explanation refusals ascii
+returns-17 c = let a = c .before .before .before .before .before .before .before .args in told (a .number) (a .line .now) (explanation 17) _ _ (ap explanation (c .before .before .before .before .before .match .keys17)) (c .before .before .put17 .ensures .0) (c .before .before .put17 .ensures .1)
+
+same-length-18 : tie.Need-same-length-18
+same-length-18 c = search needs
+
+returns-18 : tie.Need-returns-18
+unfolding explanation refusals ascii
+returns-18 c = let a = c .before .before .before .before .before .before .before .args in told (a .number) (a .line .now) (explanation 18) _ _ (ap explanation (c .before .before .before .before .before .match .keys18)) (c .before .before .put18 .ensures .0) (c .before .before .put18 .ensures .1)
+
+same-length-19 : tie.Need-same-length-19
+same-length-19 c = search needs
+
+returns-19 : tie.Need-returns-19
 unfolding noRefusal ascii
-returns-16 c = let a = c .before .before .before .before .before .before .before .args in told (a .number) (a .line .now) noRefusal _ _ (no-refusal _ (c .before .before .before .before .before .match .rest)) (c .before .before .put16 .ensures .0) (c .before .before .put16 .ensures .1)
+returns-19 c = let a = c .before .before .before .before .before .before .before .args in told (a .number) (a .line .now) noRefusal _ _ (no-refusal _ (c .before .before .before .before .before .match .rest)) (c .before .before .put19 .ensures .0) (c .before .before .put19 .ensures .1)
 
 pub explain-spec : {M : Type 1} → statement M
 explain-spec =
@@ -251,6 +290,12 @@ explain-spec =
     put-requires-15
     slice-aggregate-put-16
     put-requires-16
+    slice-aggregate-put-17
+    put-requires-17
+    slice-aggregate-put-18
+    put-requires-18
+    slice-aggregate-put-19
+    put-requires-19
     same-length
     returns
     same-length-2
@@ -282,4 +327,10 @@ explain-spec =
     same-length-15
     returns-15
     same-length-16
-    returns-16)
+    returns-16
+    same-length-17
+    returns-17
+    same-length-18
+    returns-18
+    same-length-19
+    returns-19)
