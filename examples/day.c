@@ -45,7 +45,7 @@ static int read_count(const char *word, uint32_t *count)
     return value <= UINT32_MAX;
 }
 
-/* No line is longer, and each ends with byte 10. */
+/* No line is longer than DILBRETH_LONGEST_EXPLANATION, and each ends with byte 10. */
 static void explain(uint32_t refusal)
 {
     uint8_t line[DILBRETH_LONGEST_EXPLANATION];

@@ -28,8 +28,8 @@
  *
  * A length counts elements (bytes for a text). The area of a list begins at
  * its pointer. No pointer may be null, that of a list of length 0 included.
- * An area that a call writes, a number behind a pointer among them, may not overlap
- * with any other that it is handed; two that it only reads may.
+ * An area that a call writes, numbers behind pointers included, may not overlap with
+ * any other that it is handed; two that it only reads may.
  */
 #ifndef DILBRETH_H
 #define DILBRETH_H
@@ -147,7 +147,7 @@ uint32_t dilbreth_respond(const uint8_t *text, size_t text_len,
 #define DILBRETH_FINAL_DAY 1
 
 /*
- * The day's activity of an investor, a firm or a customer, in one series: how many
+ * The day's activity of an investor (a firm or a customer) in one series: how many
  * contracts he may exercise that day, and what he is long and short after it, before
  * assignment. short_after, where it is not 0, is the short of his position in the
  * series. Refuses 16 to 18 in this order.
@@ -156,7 +156,9 @@ uint32_t dilbreth_respond(const uint8_t *text, size_t text_len,
  * raise the short and closing purchases lower it; closing sales come after the
  * exercises, and those beyond the long that remains count as opening sales. On the
  * final trading day all trades come first: the limit is opening_long plus purchases
- * less opening_short less sales, both kinds of each, not below 0.
+ * less opening_short less sales, both kinds of each, not below 0; long_after is the
+ * limit less exercised, and short_after what opening_short plus sales exceed
+ * opening_long plus purchases by, or 0.
  *
  * day                0 an ordinary day; any other number the final trading day
  * opening_long       the long contracts at the opening

@@ -40,7 +40,7 @@ accepted d i a e =
       within = ltb-false (afterDay d i .limit .0) (i .exercised .0) (none .1 .1 .0);
     }
 
--- long after the day, short and sales, and the exercised are short after the day, long and purchases
+-- long after the day, opening short, all sales and the exercised are as many as short after the day, opening long and all purchases
 abbrev pub Kept : Investor → AfterDay → Type 0
 Kept i a = a .long .0 + (i .short .0 + both (i .sales)) + i .exercised .0 ≡ a .short .0 + (i .long .0 + both (i .purchases))
 
@@ -62,20 +62,20 @@ one-side i a e =
     [ yes l ↦ inl (omega (arith, ap (λ x. x .long .0) gets)) | no g ↦ inr (omega (arith, ap (λ x. x .short .0) gets)) ]
 
 -- an ordinary day's limit is never below the final trading day's
-pub ordinary-limit-larger : (d : Day) (i : Investor) (a : AfterDay) → investorDay d i ≡ value a → afterDay Day.Final i .limit .0 ≤ afterDay Day.Ordinary i .limit .0
+pub ordinary-limit-not-below : (d : Day) (i : Investor) (a : AfterDay) → investorDay d i ≡ value a → afterDay Day.Final i .limit .0 ≤ afterDay Day.Ordinary i .limit .0
 unfolding afterDay ordinaryDay finalDay
-ordinary-limit-larger d i a e = let c = accepted d i a e .closing in omega arith
+ordinary-limit-not-below d i a e = let c = accepted d i a e .closing in omega arith
 
 -- nor is a market-maker's, whatever his counts
-pub maker-ordinary-limit-larger : (m : MarketMaker) → marketMakerLimit Day.Final m ≤ marketMakerLimit Day.Ordinary m
+pub maker-limit-not-below : (m : MarketMaker) → marketMakerLimit Day.Final m ≤ marketMakerLimit Day.Ordinary m
 unfolding marketMakerLimit
-maker-ordinary-limit-larger m = omega arith
+maker-limit-not-below m = omega arith
 
 -- what is accepted on the final trading day is accepted on an ordinary one
 pub accepted-on-ordinary : (i : Investor) (a : AfterDay) → investorDay Day.Final i ≡ value a → investorDay Day.Ordinary i ≡ value (afterDay Day.Ordinary i)
 accepted-on-ordinary i a e =
     let f = accepted Day.Final i a e in
-    let within : i .exercised .0 ≤ afterDay Day.Ordinary i .limit .0 = omega (arith, f .within, ordinary-limit-larger Day.Final i a e) in
+    let within : i .exercised .0 ≤ afterDay Day.Ordinary i .limit .0 = omega (arith, f .within, ordinary-limit-not-below Day.Final i a e) in
     sym (processed Day.Ordinary i (f .counts) (f .seventeen) (afterDay Day.Ordinary i) refl within)
 
 -- the same day with n contracts to exercise
@@ -88,7 +88,7 @@ unfolding afterDay ordinaryDay finalDay exercising
 same-limit Day.Ordinary i n = refl
 same-limit Day.Final i n = refl
 
--- the limit is what he may exercise: as many contracts as that or fewer are accepted, and more are 18
+-- the limit is what he may exercise: of counts up to 10,000,000, those up to the limit are accepted, and larger ones are 18
 pub limit-is-most : (d : Day) (i : Investor) (a : AfterDay) → investorDay d i ≡ value a → (n : ℕ) → n ≤ MOST_CONTRACTS
     → investorDay d (exercising n i) ≡ cond (ltb (a .limit .0) n) (refused 18) (value (afterDay d (exercising n i)))
 unfolding investorDay investorRows first exercising

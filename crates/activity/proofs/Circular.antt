@@ -1,10 +1,10 @@
--- The circular's examples, and the order of the refusals, proved of the definitions by computation.
+-- The circular's examples, proved of the definitions by computation.
 use Prim.Native.Nat.{ℕ}
 use mathlib.Core.Path.{_≡_, refl}
 use mathlib.Core.List.{List, [], _∷_, map}
 use Rattle.series.specs.Results.{Result, refused, value}
 use Rattle.series.specs.Refusals.{first}
-use Rattle.activity.specs.Activity.{investorOf, marketMakerOf, limitLongShort, ordinaryDay, finalDay, afterDay, marketMakerLimit, anyAbove, investorRows, marketMakerRows, investorDay, marketMakerDay}
+use Rattle.activity.specs.Activity.{investorOf, marketMakerOf, afterDayOf, ordinaryDay, finalDay, afterDay, marketMakerLimit, anyAbove, investorRows, marketMakerRows, investorDay, marketMakerDay}
 use Rattle.activity.specs.declared.Day.{Day}
 use Rattle.activity.specs.declared.Day.the-variants.{Ordinary, Final}
 use Rattle.activity.specs.declared.Investor.{Investor}
@@ -56,14 +56,14 @@ examples =
 
 -- limit, long and short: X may exercise 35, and then his closing sales leave him short 10; Y may exercise 20 and stays short 20, nothing being netted; Z may exercise 100. On the final trading day X may exercise 25, Y and Z none
 pub examples-known : map outcome examples ≡
-    gets (value (limitLongShort 35 0 10)) ∷
+    gets (value (afterDayOf 35 0 10)) ∷
     gets (refused 18) ∷
-    gets (value (limitLongShort 35 25 0)) ∷
-    gets (value (limitLongShort 25 0 0)) ∷
+    gets (value (afterDayOf 35 25 0)) ∷
+    gets (value (afterDayOf 25 0 0)) ∷
     gets (refused 18) ∷
-    gets (value (limitLongShort 20 0 20)) ∷
-    gets (value (limitLongShort 20 20 20)) ∷
-    gets (value (limitLongShort 0 0 0)) ∷
+    gets (value (afterDayOf 20 0 20)) ∷
+    gets (value (afterDayOf 20 20 20)) ∷
+    gets (value (afterDayOf 0 0 0)) ∷
     gets (refused 18) ∷
     limited (value 100) ∷
     limited (value 0) ∷

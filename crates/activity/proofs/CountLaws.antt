@@ -1,14 +1,14 @@
 -- Laws of the counts that are given: which of them pass the limit of 16, and what holds where none does.
 use Prim.Native.Nat.{ℕ, suc, _≤_, _<_}
 use mathlib.Core.Path.{_≡_, refl}
-use mathlib.Core.Bool.{Bool, true, false, _||_}
+use mathlib.Core.Bool.{true, false}
 use mathlib.Core.List.{List, [], _∷_}
-use native.Mathlib.Omega.{arith}
 use borrow.Author.Tests.{lt-ltb, le-ltb, ltb-false}
 use lib.Dec.{ltb}
 use lib.ListN.{length, getD, drop, drop-of-length-le}
 use lib.Seq.{drop-cons}
 use Rattle.series.specs.Series.{MOST_CONTRACTS}
+use Rattle.series.proofs.CallLaws.{or-false}
 use Rattle.activity.specs.Activity.{anyAbove}
 use Rattle.activity.specs.Parts.{Counted}
 
@@ -26,10 +26,6 @@ module _ (ns : List ℕ) (i : ℕ) (h : i < length ns) where
 pub above-end : (ns : List ℕ) (i : ℕ) → length ns ≤ i → false ≡ anyAbove (drop i ns)
 unfolding anyAbove
 above-end ns i h = rw (drop-of-length-le ns h)
-
-or-false : (a b : Bool) → (a || b) ≡ false → (a ≡ false) × (b ≡ false)
-or-false false b e = (refl, e)
-or-false true b e = let z : _≡_ {A = ℕ} 0 1 = cc in absurd (omega arith)
 
 -- where no count is above the most, every count is at most that
 pub counted : (ns : List ℕ) → anyAbove ns ≡ false → Counted ns

@@ -4,7 +4,7 @@ use mathlib.Core.Path.{_≡_, refl}
 use mathlib.Core.List.{List, [], _∷_, map}
 use lib.ListN.{replicate}
 use Rattle.series.specs.Results.{refused, value}
-use Rattle.activity.specs.Activity.{investorOf, marketMakerOf, limitLongShort}
+use Rattle.activity.specs.Activity.{investorOf, marketMakerOf, afterDayOf}
 use Rattle.activity.specs.declared.Day.the-variants.{Ordinary, Final}
 use Rattle.activity.proofs.Circular.{Activity, ofInvestor, ofMaker, gets, limited, outcome}
 
@@ -70,26 +70,26 @@ days =
     []
 
 pub days-known : map outcome days ≡
-    gets (value (limitLongShort 20000000 0 10000000)) ∷
+    gets (value (afterDayOf 20000000 0 10000000)) ∷
     gets (refused 18) ∷
-    gets (value (limitLongShort 0 0 0)) ∷
+    gets (value (afterDayOf 0 0 0)) ∷
     limited (value 20000000) ∷
     limited (value 0) ∷
     gets (refused 17) ∷
     gets (refused 17) ∷
-    gets (value (limitLongShort 0 0 0)) ∷
+    gets (value (afterDayOf 0 0 0)) ∷
     gets (refused 17) ∷
-    gets (value (limitLongShort 0 0 0)) ∷
+    gets (value (afterDayOf 0 0 0)) ∷
     gets (refused 17) ∷
     gets (refused 17) ∷
     gets (refused 17) ∷
-    gets (value (limitLongShort 10 0 0)) ∷
-    gets (value (limitLongShort 10 0 0)) ∷
-    gets (value (limitLongShort 10 3 0)) ∷
-    gets (value (limitLongShort 6 3 0)) ∷
-    gets (value (limitLongShort 5 0 14)) ∷
+    gets (value (afterDayOf 10 0 0)) ∷
+    gets (value (afterDayOf 10 0 0)) ∷
+    gets (value (afterDayOf 10 3 0)) ∷
+    gets (value (afterDayOf 6 3 0)) ∷
+    gets (value (afterDayOf 5 0 14)) ∷
     gets (refused 18) ∷
-    gets (value (limitLongShort 0 0 12)) ∷
+    gets (value (afterDayOf 0 0 12)) ∷
     limited (value 5) ∷
     limited (value 5) ∷
     limited (value 4) ∷

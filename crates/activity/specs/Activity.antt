@@ -7,15 +7,10 @@ use Rattle.series.specs.Results.{Result}
 use Rattle.series.specs.Series.{MOST_CONTRACTS}
 use Rattle.series.specs.Refusals.{Row, _⟶_∣_, first}
 use Rattle.activity.specs.declared.Day.{Day}
-use Rattle.activity.specs.declared.Marked.{Marked}
+use Rattle.activity.specs.declared.Transactions.{Transactions}
 use Rattle.activity.specs.declared.Investor.{Investor}
 use Rattle.activity.specs.declared.MarketMaker.{MarketMaker}
 use Rattle.activity.specs.declared.AfterDay.{AfterDay}
-
--- what is given for each kind of day: an ordinary one, the final trading day
-abbrev pub byDay : {A : Type 0} → Day → A → A → A
-byDay Day.Ordinary o f = o
-byDay Day.Final o f = f
 
 -- an investor gives opening long and short, opening purchases and sales, closing purchases and sales, and the contracts to exercise
 abbrev pub investorOf : ℕ → ℕ → ℕ → ℕ → ℕ → ℕ → ℕ → Investor
@@ -33,8 +28,8 @@ abbrev pub marketMakerOf : ℕ → ℕ → ℕ → ℕ → MarketMaker
 marketMakerOf long short purchases sales = record { long = record { 0 = long }; short = record { 0 = short }; purchases = record { 0 = purchases }; sales = record { 0 = sales } }
 
 -- the limit, and long and short after the day
-abbrev pub limitLongShort : ℕ → ℕ → ℕ → AfterDay
-limitLongShort limit long short = record { limit = record { 0 = limit }; long = record { 0 = long }; short = record { 0 = short } }
+abbrev pub afterDayOf : ℕ → ℕ → ℕ → AfterDay
+afterDayOf limit long short = record { limit = record { 0 = limit }; long = record { 0 = long }; short = record { 0 = short } }
 
 -- ---- an investor on an ordinary day
 
@@ -44,8 +39,8 @@ module _ (i : Investor) where
   ordinaryLimit = i .long .0 + i .purchases .opening .0
 
   -- opening sales raise the short and closing purchases lower it
-  abbrev pub shortBefore : ℕ
-  shortBefore = (i .short .0 + i .sales .opening .0) - i .purchases .closing .0
+  abbrev pub shortBeforeExercises : ℕ
+  shortBeforeExercises = (i .short .0 + i .sales .opening .0) - i .purchases .closing .0
 
   -- the long that remains after exercises
   abbrev pub remaining : ℕ
@@ -55,9 +50,9 @@ module _ (i : Investor) where
   abbrev pub countedAsOpening : ℕ
   countedAsOpening = i .sales .closing .0 - remaining
 
-  -- the long is what remains less closing sales
+  -- the long is what remains less closing sales, and the short has those that count as opening ones
   unfoldable pub ordinaryDay : AfterDay
-  ordinaryDay = limitLongShort ordinaryLimit (remaining - i .sales .closing .0) (shortBefore + countedAsOpening)
+  ordinaryDay = afterDayOf ordinaryLimit (remaining - i .sales .closing .0) (shortBeforeExercises + countedAsOpening)
 
 -- ---- the final trading day, on which all trades come first
 
@@ -66,7 +61,7 @@ abbrev pub finalLimit : ℕ → ℕ → ℕ → ℕ → ℕ
 finalLimit long short purchases sales = (long + purchases) - short - sales
 
 -- both kinds of purchases, or of sales
-abbrev pub both : Marked → ℕ
+abbrev pub both : Transactions → ℕ
 both t = t .opening .0 + t .closing .0
 
 module _ (i : Investor) where
@@ -76,18 +71,17 @@ module _ (i : Investor) where
 
   -- the long is the limit less the exercised, the short what short plus sales exceed long plus purchases by
   unfoldable pub finalDay : AfterDay
-  finalDay = limitLongShort investorFinalLimit (investorFinalLimit - i .exercised .0) ((i .short .0 + both (i .sales)) - (i .long .0 + both (i .purchases)))
+  finalDay = afterDayOf investorFinalLimit (investorFinalLimit - i .exercised .0) ((i .short .0 + both (i .sales)) - (i .long .0 + both (i .purchases)))
 
--- what an investor gets where he meets no refusal
+-- what an investor gets on each kind of day where he meets no refusal
 unfoldable pub afterDay : Day → Investor → AfterDay
-afterDay d i = byDay d (ordinaryDay i) (finalDay i)
+afterDay Day.Ordinary i = ordinaryDay i
+afterDay Day.Final i = finalDay i
 
 -- what a market-maker gets where he meets no refusal: the limit only, with all purchases on an ordinary day
 unfoldable pub marketMakerLimit : Day → MarketMaker → ℕ
-marketMakerLimit d m =
-    byDay d
-    (m .long .0 + m .purchases .0)
-    (finalLimit (m .long .0) (m .short .0) (m .purchases .0) (m .sales .0))
+marketMakerLimit Day.Ordinary m = m .long .0 + m .purchases .0
+marketMakerLimit Day.Final m = finalLimit (m .long .0) (m .short .0) (m .purchases .0) (m .sales .0)
 
 -- ---- refusals
 

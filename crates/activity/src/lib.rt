@@ -14,17 +14,17 @@ pub enum Day {
 }
 
 // Purchases, or sales, of a day, marked as opening and as closing transactions.
-pub struct Marked {
+pub struct Transactions {
     pub opening: Contracts,
     pub closing: Contracts,
 }
 
-// What an investor, a firm or a customer, gives of a day: long and short at its opening, the transactions, and the contracts to exercise.
+// What an investor (a firm or a customer) gives of a day: long and short at its opening, the transactions, and the contracts to exercise.
 pub struct Investor {
     pub long: Contracts,
     pub short: Contracts,
-    pub purchases: Marked,
-    pub sales: Marked,
+    pub purchases: Transactions,
+    pub sales: Transactions,
     pub exercised: Contracts,
 }
 
@@ -83,18 +83,18 @@ fn ordinary_day(investor: Investor) -> AfterDay
     requires { ⌜ Counted (investorCounts investor) ⌝ }
     ensures { λ r. ⌜ r ≡ ordinaryDay investor ⌝ }
 {
-    let limit = Contracts(investor.long.0 + investor.purchases.opening.0);
-    let short = excess(
-        Contracts(investor.short.0 + investor.sales.opening.0),
-        investor.purchases.closing,
-    );
+    let long_side = investor.long.0 + investor.purchases.opening.0;
+    let short_side = investor.short.0 + investor.sales.opening.0;
+    let limit = Contracts(long_side);
+    let short = excess(Contracts(short_side), investor.purchases.closing);
     let remaining = excess(limit, investor.exercised);
     let long = excess(remaining, investor.sales.closing);
     let as_opening = excess(investor.sales.closing, remaining);
+    let short_after = short.0 + as_opening.0;
     AfterDay {
         limit,
         long,
-        short: Contracts(short.0 + as_opening.0),
+        short: Contracts(short_after),
     }
 }
 
@@ -103,15 +103,13 @@ fn final_day(investor: Investor) -> AfterDay
     requires { ⌜ Counted (investorCounts investor) ⌝ }
     ensures { λ r. ⌜ r ≡ finalDay investor ⌝ }
 {
-    let bought = Contracts(
-        investor.long.0 + investor.purchases.opening.0 + investor.purchases.closing.0,
-    );
-    let sold = Contracts(investor.short.0 + investor.sales.opening.0 + investor.sales.closing.0);
-    let limit = excess(bought, sold);
+    let long_side = investor.long.0 + investor.purchases.opening.0 + investor.purchases.closing.0;
+    let short_side = investor.short.0 + investor.sales.opening.0 + investor.sales.closing.0;
+    let limit = excess(Contracts(long_side), Contracts(short_side));
     AfterDay {
         limit,
         long: excess(limit, investor.exercised),
-        short: excess(sold, bought),
+        short: excess(Contracts(short_side), Contracts(long_side)),
     }
 }
 
@@ -172,11 +170,11 @@ fn market_maker_limit(day: Day, maker: MarketMaker) -> Contracts
     requires { ⌜ Counted (marketMakerCounts maker) ⌝ }
     ensures { λ r. ⌜ r .0 ≡ marketMakerLimit day maker ⌝ }
 {
-    let bought = Contracts(maker.long.0 + maker.purchases.0);
-    let sold = Contracts(maker.short.0 + maker.sales.0);
+    let long_side = maker.long.0 + maker.purchases.0;
+    let short_side = maker.short.0 + maker.sales.0;
     match day {
-        Day::Ordinary => bought,
-        Day::Final => excess(bought, sold),
+        Day::Ordinary => Contracts(long_side),
+        Day::Final => excess(Contracts(long_side), Contracts(short_side)),
     }
 }
 

@@ -2,9 +2,9 @@
 use activity::Day;
 use activity::Investor;
 use activity::InvestorDay;
-use activity::Marked;
 use activity::MarketMaker;
 use activity::MarketMakerDay;
+use activity::Transactions;
 use series::Contracts;
 use series::Refusal;
 
@@ -44,11 +44,11 @@ fn investor(label: &[u8], counts: [u32; 7]) {
     let given = Investor {
         long: Contracts(counts[0]),
         short: Contracts(counts[1]),
-        purchases: Marked {
+        purchases: Transactions {
             opening: Contracts(counts[2]),
             closing: Contracts(counts[4]),
         },
-        sales: Marked {
+        sales: Transactions {
             opening: Contracts(counts[3]),
             closing: Contracts(counts[5]),
         },

@@ -2,9 +2,9 @@
 use activity::Day;
 use activity::Investor;
 use activity::InvestorDay;
-use activity::Marked;
 use activity::MarketMaker;
 use activity::MarketMakerDay;
+use activity::Transactions;
 use series::Contracts;
 ghost use mathlib.Core.Path.{_≡_};
 ghost use Rattle.activity.specs.Activity.{investorOf, marketMakerOf, investorDay, marketMakerDay};
@@ -40,11 +40,11 @@ pub extern "C" fn dilbreth_process_investor(
     let investor = Investor {
         long: Contracts(opening_long),
         short: Contracts(opening_short),
-        purchases: Marked {
+        purchases: Transactions {
             opening: Contracts(opening_purchases),
             closing: Contracts(closing_purchases),
         },
-        sales: Marked {
+        sales: Transactions {
             opening: Contracts(opening_sales),
             closing: Contracts(closing_sales),
         },

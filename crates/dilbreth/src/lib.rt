@@ -1,4 +1,4 @@
-// The calls of the library for C and Rust, over numbers and slices. Each answers 0, or the number of a refusal of document 01, and then nothing behind its arguments has changed.
+// The calls of the library for C and Rust, over numbers and slices. Each answers 0, or the number of a refusal of documents 01 and 02, and then nothing behind its arguments has changed.
 mod day;
 mod explain;
 

@@ -89,14 +89,14 @@ pub struct Terms {
     pub positions: usize,
 }
 
-/// What an investor, a firm or a customer, gives of his day in one series, in contracts.
+/// What an investor (a firm or a customer) gives of his day in one series, in contracts.
 #[derive(Clone, Copy, Debug, Default, PartialEq, Eq)]
 pub struct Investor {
     pub opening_long: u32,
     pub opening_short: u32,
     pub opening_purchases: u32,
     pub opening_sales: u32,
-    /// At most the opening short and the opening sales.
+    /// At most the opening short plus the opening sales.
     pub closing_purchases: u32,
     pub closing_sales: u32,
     /// The contracts to exercise, at most the limit.

@@ -6,17 +6,17 @@ use borrow.Author.Needs.{needs}
 use Rattle.activity.proofs.final_day.Statement.{statement}
 use Rattle.activity.proofs.final_day.Tie as tie
 
-add-t5 : tie.Need-add-t5
-add-t5 c = search needs
+add-long-side : tie.Need-add-long-side
+add-long-side c = search needs
 
-add-t6 : tie.Need-add-t6
-add-t6 c = search needs
+add-long-side-2 : tie.Need-add-long-side-2
+add-long-side-2 c = search needs
 
-add-t5-2 : tie.Need-add-t5-2
-add-t5-2 c = search needs
+add-short-side : tie.Need-add-short-side
+add-short-side c = search needs
 
-add-t6-2 : tie.Need-add-t6-2
-add-t6-2 c = search needs
+add-short-side-2 : tie.Need-add-short-side-2
+add-short-side-2 c = search needs
 
 excess-requires : tie.Need-excess-requires
 excess-requires c κs = search needs
@@ -35,10 +35,10 @@ pub final-day-spec : {M : Type 1} → statement M
 final-day-spec =
     tie.close
     (tie.spec
-    add-t5
-    add-t6
-    add-t5-2
-    add-t6-2
+    add-long-side
+    add-long-side-2
+    add-short-side
+    add-short-side-2
     excess-requires
     excess-requires-2
     excess-requires-3

@@ -7,11 +7,11 @@ use borrow.Author.Needs.{needs}
 use Rattle.activity.proofs.market_maker_limit.Statement.{statement}
 use Rattle.activity.proofs.market_maker_limit.Tie as tie
 
-add-t5 : tie.Need-add-t5
-add-t5 c = search needs
+add-long-side : tie.Need-add-long-side
+add-long-side c = search needs
 
-add-t5-2 : tie.Need-add-t5-2
-add-t5-2 c = search needs
+add-short-side : tie.Need-add-short-side
+add-short-side c = search needs
 
 enum-told : tie.Need-enum-told
 enum-told c = search needs
@@ -34,4 +34,5 @@ returns-2 c = let m = c .before .before .before .before .before .args .maker in
 
 pub market-maker-limit-spec : {M : Type 1} → statement M
 market-maker-limit-spec =
-    tie.close (tie.spec add-t5 add-t5-2 enum-told enum-told-2 excess-requires returns returns-2)
+    tie.close
+    (tie.spec add-long-side add-short-side enum-told enum-told-2 excess-requires returns returns-2)

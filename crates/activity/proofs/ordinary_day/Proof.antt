@@ -6,11 +6,11 @@ use borrow.Author.Needs.{needs}
 use Rattle.activity.proofs.ordinary_day.Statement.{statement}
 use Rattle.activity.proofs.ordinary_day.Tie as tie
 
-add-t7 : tie.Need-add-t7
-add-t7 c = search needs
+add-long-side : tie.Need-add-long-side
+add-long-side c = search needs
 
-add-t7-2 : tie.Need-add-t7-2
-add-t7-2 c = search needs
+add-short-side : tie.Need-add-short-side
+add-short-side c = search needs
 
 excess-requires : tie.Need-excess-requires
 excess-requires c κs = search needs
@@ -24,8 +24,8 @@ excess-requires-3 c κs = search needs
 excess-requires-4 : tie.Need-excess-requires-4
 excess-requires-4 c κs = search needs
 
-add-t7-3 : tie.Need-add-t7-3
-add-t7-3 c = search needs
+add-short-after : tie.Need-add-short-after
+add-short-after c = search needs
 
 returns : tie.Need-returns
 unfolding ordinaryDay
@@ -35,11 +35,11 @@ pub ordinary-day-spec : {M : Type 1} → statement M
 ordinary-day-spec =
     tie.close
     (tie.spec
-    add-t7
-    add-t7-2
+    add-long-side
+    add-short-side
     excess-requires
     excess-requires-2
     excess-requires-3
     excess-requires-4
-    add-t7-3
+    add-short-after
     returns)
