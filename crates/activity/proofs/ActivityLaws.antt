@@ -53,6 +53,10 @@ nothing-lost d i a e = let f = accepted d i a e in rw (f .gets) at (kept d (f .c
     kept Day.Ordinary c w = omega arith
     kept Day.Final c w = omega arith
 
+-- so both kinds of day leave the same balance of long and short
+pub same-balance : (i : Investor) (o f : AfterDay) → investorDay Day.Ordinary i ≡ value o → investorDay Day.Final i ≡ value f → o .long .0 + f .short .0 ≡ f .long .0 + o .short .0
+same-balance i o f e g = omega (arith, nothing-lost Day.Ordinary i o e, nothing-lost Day.Final i f g)
+
 -- after the final trading day no one is both long and short
 pub one-side : (i : Investor) (a : AfterDay) → investorDay Day.Final i ≡ value a → (a .long .0 ≡ 0) ⊎ (a .short .0 ≡ 0)
 unfolding afterDay finalDay
@@ -76,7 +80,7 @@ pub accepted-on-ordinary : (i : Investor) (a : AfterDay) → investorDay Day.Fin
 accepted-on-ordinary i a e =
     let f = accepted Day.Final i a e in
     let within : i .exercised .0 ≤ afterDay Day.Ordinary i .limit .0 = omega (arith, f .within, ordinary-limit-not-below Day.Final i a e) in
-    sym (processed Day.Ordinary i (f .counts) (f .seventeen) (afterDay Day.Ordinary i) refl within)
+    sym (processed Day.Ordinary i _ refl (f .counts) _ refl (f .seventeen) (afterDay Day.Ordinary i) refl within)
 
 -- the same day with n contracts to exercise
 unfoldable pub exercising : ℕ → Investor → Investor

@@ -1,7 +1,7 @@
 -- What a day comes to, as the code decides it: each refusal below those that do not apply, and the value where none does.
 use Prim.Native.Nat.{ℕ, _≤_, _<_}
 use mathlib.Core.Path.{_≡_}
-use mathlib.Core.Bool.{true, false}
+use mathlib.Core.Bool.{Bool, true, false}
 use borrow.Author.Tests.{lt-ltb, le-ltb}
 use Rattle.series.specs.Results.{refused, value}
 use Rattle.series.specs.Refusals.{first}
@@ -15,24 +15,25 @@ use Rattle.activity.specs.declared.AfterDay.{AfterDay}
 pub after-is : (a : AfterDay) (limit long short : ℕ) → a .limit .0 ≡ limit → a .long .0 ≡ long → a .short .0 ≡ short → a ≡ afterDayOf limit long short
 after-is a limit long short e f g = rw (← e, ← f, ← g)
 
-module _ (d : Day) (i : Investor) where
-  pub refused-count : anyAbove (investorCounts i) ≡ true → refused 16 ≡ investorDay d i
+-- above and closes are the answers to the first two tests
+module _ (d : Day) (i : Investor) (above : Bool) (is-above : above ≡ anyAbove (investorCounts i)) where
+  pub refused-count : above ≡ true → refused 16 ≡ investorDay d i
   unfolding investorDay investorRows first
-  refused-count e = rw e
+  refused-count e = rw (← is-above, e)
 
-  module _ (counts : anyAbove (investorCounts i) ≡ false) where
-    pub refused-closing : closesAboveShort i ≡ true → refused 17 ≡ investorDay d i
+  module _ (counts : above ≡ false) (closes : Bool) (is-closes : closes ≡ closesAboveShort i) where
+    pub refused-closing : closes ≡ true → refused 17 ≡ investorDay d i
     unfolding investorDay investorRows first
-    refused-closing e = rw (counts, e)
+    refused-closing e = rw (← is-above, counts, ← is-closes, e)
 
-    module _ (closing : closesAboveShort i ≡ false) (a : AfterDay) (is : a ≡ afterDay d i) where
+    module _ (closing : closes ≡ false) (a : AfterDay) (is : a ≡ afterDay d i) where
       pub refused-exercised : a .limit .0 < i .exercised .0 → refused 18 ≡ investorDay d i
       unfolding investorDay investorRows first
-      refused-exercised h = rw (counts, closing, ← is, lt-ltb (a .limit .0) (i .exercised .0) h)
+      refused-exercised h = rw (← is-above, counts, ← is-closes, closing, ← is, lt-ltb (a .limit .0) (i .exercised .0) h)
 
       pub processed : i .exercised .0 ≤ a .limit .0 → value a ≡ investorDay d i
       unfolding investorDay investorRows first
-      processed h = rw (counts, closing, ← is, le-ltb (a .limit .0) (i .exercised .0) h)
+      processed h = rw (← is-above, counts, ← is-closes, closing, ← is, le-ltb (a .limit .0) (i .exercised .0) h)
 
 module _ (d : Day) (m : MarketMaker) where
   pub maker-refused : anyAbove (marketMakerCounts m) ≡ true → refused 16 ≡ marketMakerDay d m
