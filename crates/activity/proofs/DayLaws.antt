@@ -15,7 +15,7 @@ use Rattle.activity.specs.declared.AfterDay.{AfterDay}
 pub after-is : (a : AfterDay) (limit long short : ℕ) → a .limit .0 ≡ limit → a .long .0 ≡ long → a .short .0 ≡ short → a ≡ afterDayOf limit long short
 after-is a limit long short e f g = rw (← e, ← f, ← g)
 
--- above and closes are the answers to the first two tests
+-- above and closes are what the tests for 16 and 17 answer
 module _ (d : Day) (i : Investor) (above : Bool) (is-above : above ≡ anyAbove (investorCounts i)) where
   pub refused-count : above ≡ true → refused 16 ≡ investorDay d i
   unfolding investorDay investorRows first
@@ -35,11 +35,11 @@ module _ (d : Day) (i : Investor) (above : Bool) (is-above : above ≡ anyAbove 
       unfolding investorDay investorRows first
       processed h = rw (← is-above, counts, ← is-closes, closing, ← is, le-ltb (a .limit .0) (i .exercised .0) h)
 
-module _ (d : Day) (m : MarketMaker) where
-  pub maker-refused : anyAbove (marketMakerCounts m) ≡ true → refused 16 ≡ marketMakerDay d m
+module _ (d : Day) (m : MarketMaker) (above : Bool) (is-above : above ≡ anyAbove (marketMakerCounts m)) where
+  pub maker-refused : above ≡ true → refused 16 ≡ marketMakerDay d m
   unfolding marketMakerDay marketMakerRows first
-  maker-refused e = rw e
+  maker-refused e = rw (← is-above, e)
 
-  pub maker-limited : anyAbove (marketMakerCounts m) ≡ false → value (marketMakerLimit d m) ≡ marketMakerDay d m
+  pub maker-limited : above ≡ false → (limit : ℕ) → limit ≡ marketMakerLimit d m → value limit ≡ marketMakerDay d m
   unfolding marketMakerDay marketMakerRows first
-  maker-limited e = rw e
+  maker-limited e limit is = rw (← is-above, e, is)

@@ -12,21 +12,21 @@ fn print(text: &[u8]) {
     io::write_all(libc::STDOUT_FILENO, text);
 }
 
-fn print_count(name: &[u8], count: Contracts) {
+fn print_number(name: &[u8], n: u32) {
     print(name);
-    io::print_decimal(libc::STDOUT_FILENO, count.0 as u64);
+    io::print_decimal(libc::STDOUT_FILENO, n as u64);
 }
 
 fn print_refusal(refusal: Refusal) {
-    print_count(b" refused ", Contracts(series::number(refusal)));
+    print_number(b" refused ", series::number(refusal));
 }
 
 fn print_investor(day: Day, investor: Investor) {
     match activity::process_investor(day, investor) {
         InvestorDay::After(after) => {
-            print_count(b" limit ", after.limit);
-            print_count(b" long ", after.long);
-            print_count(b" short ", after.short);
+            print_number(b" limit ", after.limit.0);
+            print_number(b" long ", after.long.0);
+            print_number(b" short ", after.short.0);
         }
         InvestorDay::Refused(refusal) => print_refusal(refusal),
     }
@@ -34,7 +34,7 @@ fn print_investor(day: Day, investor: Investor) {
 
 fn print_market_maker(day: Day, maker: MarketMaker) {
     match activity::process_market_maker(day, maker) {
-        MarketMakerDay::Limit(limit) => print_count(b" limit ", limit),
+        MarketMakerDay::Limit(limit) => print_number(b" limit ", limit.0),
         MarketMakerDay::Refused(refusal) => print_refusal(refusal),
     }
 }
