@@ -1,18 +1,22 @@
--- Round two by a cut-off serves the positions that the rules serve.
+-- The cut-off that the search finds, and that round two by it serves the positions that the rules serve.
 use Prim.Native.Nat.{ℕ, _+_, _-_, _*_, _%_, _≤_, _<_}
-use mathlib.Core.Path.{_≡_, sym, ap, ap₂, _∙_}
+use mathlib.Core.Path.{_≡_, refl, sym, ap, ap₂, _∙_}
+use mathlib.Core.Option.{Option, none, some, Option·map, Option·some-injective}
 use mathlib.Core.List.{List}
 use native.Mathlib.Omega.{arith}
 use native.Mathlib.Nat.{mod-eq-of-lt, mod-mod}
+use native.Mathlib.Numerals.{add-one}
 use native.Mathlib.Decide.{decLt, ℕ-discrete}
 use borrow.Author.Tests.{lt-ltb, le-ltb, eq-eqb, ne-eqb}
 use lib.Dec.{eqb, ltb}
 use lib.ListN.{length}
 use Rattle.series.specs.Sums.{bit}
 use Rattle.series.specs.ProRata.{turn, larger, equal, roundTwo}
+use Rattle.series.specs.CutOff.{atLeast, cutOff, RunsOutAt, atCutOff, byCutOff}
 use Rattle.series.proofs.SumLaws.{bit-le, listed-cong}
-use Rattle.series.proofs.ProRataLaws.{turn-first, turn-after, by-cut}
-use Rattle.pro_rata.specs.Rounds.{at, added, atCutOff, byCutOff, CutOffAt}
+use Rattle.series.proofs.ProRataLaws.{turn-first, turn-after, atLeast-parts, larger-next, no-cut-off, cut-off-is, cut-off-only, none-left, by-cut}
+use Rattle.pro_rata.specs.Rounds.{at, added, counted, cutOffOf}
+use Rattle.pro_rata.specs.declared.rounds.Cutoff.the-variants.{At, Nothing}
 
 -- the turn of a tied position, with no division
 pub turn-low : (first g k : ℕ) → first < g → k < first → turn first g k ≡ g - first + k
@@ -52,19 +56,58 @@ turn-mod : (draw g k : ℕ) → turn (draw % g) g k ≡ turn draw g k
 unfolding turn
 turn-mod draw g k = ap (λ s. (k + (g - s)) % g) (mod-mod draw g)
 
+-- what the search hands back of a cut-off c: l positions have a larger decimal part and g have c
+pub record CutOffAt (d : ℕ → ℕ) (n left c l g : ℕ) : Type 0 where
+  pub runs-out : RunsOutAt d n left c
+  pub larger-are : l ≡ larger d c n
+  pub tied-are : g ≡ equal d c n
+
+module _ (d : ℕ → ℕ) (n left : ℕ) (five : (i : ℕ) → i < n → d i < 100000) (most : left ≤ n) where
+  -- where at least as many positions as are left have c or more, and fewer c + 1 or more, that is the cut-off with its counts
+  pub found : (c high enough l : ℕ) → high ≡ c + 1 → enough ≡ atLeast d c n → l ≡ atLeast d high n → left ≤ enough → l < left → cutOffOf (At c l (enough - l)) ≡ counted d n (cutOff d n left)
+  found c high enough l one counts more more-than fewer =
+      let above : l ≡ larger d c n = more ∙ ap (λ x. atLeast d x n) (one ∙ add-one c) ∙ sym (larger-next d c n) in
+      let share : enough - l ≡ equal d c n = omega (arith, atLeast-parts d c n) in
+      rw (cut-off-only d n left five most c (record { fewer = omega arith; enough = omega arith }), share, above)
+
+  pub none-found : left ≡ 0 → cutOffOf Nothing ≡ counted d n (cutOff d n left)
+  none-found e = rw (no-cut-off d n left e) refl
+
+  -- and the other way round
+  pub is-cut-off : (c l g : ℕ) → cutOffOf (At c l g) ≡ counted d n (cutOff d n left) → CutOffAt d n left c l g
+  is-cut-off c l g e = by-cases (cutOff d n left) refl e
+    where
+      by-cases : (o : Option ℕ) → cutOff d n left ≡ o → cutOffOf (At c l g) ≡ counted d n o → CutOffAt d n left c l g
+      by-cases none q e = let z : _≡_ {A = ℕ} 0 1 = cc in absurd (omega arith)
+      by-cases (some x) q e =
+          let k = Option·some-injective _ _ e in
+          let same : c ≡ x = ap (λ a. a .cut) k in
+          record {
+            runs-out = cut-off-is d n left five most c (q ∙ ap some (sym same));
+            larger-are = ap (λ a. a .above) k ∙ ap (λ y. larger d y n) (sym same);
+            tied-are = ap (λ a. a .tied) k ∙ ap (λ y. equal d y n) (sym same);
+          }
+
+  pub is-none : cutOffOf Nothing ≡ counted d n (cutOff d n left) → left ≡ 0
+  is-none e = by-cases (cutOff d n left) refl e
+    where
+      by-cases : (o : Option ℕ) → cutOff d n left ≡ o → cutOffOf Nothing ≡ counted d n o → left ≡ 0
+      by-cases none q e = none-left d n left five most q
+      by-cases (some x) q e = let z : _≡_ {A = ℕ} 0 1 = cc in absurd (omega arith)
+
 -- the service by the cut-off is that of the rules
 module _ (d : ℕ → ℕ) (n left c l g : ℕ) (cut : CutOffAt d n left c l g) where
   pub tied-some : 0 < g
-  tied-some = omega (arith, cut .fewer, cut .enough, cut .tied-are)
+  tied-some = omega (arith, cut .runs-out .fewer, cut .runs-out .enough, cut .tied-are, atLeast-parts d c n)
 
   pub serves : left - l ≤ g
-  serves = omega (arith, cut .enough, cut .larger-are, cut .tied-are)
+  serves = omega (arith, cut .runs-out .enough, cut .larger-are, cut .tied-are, atLeast-parts d c n)
 
   by-rank : (draw i : ℕ) → i < n → byCutOff d c (draw % equal d c n) (equal d c n) (left - larger d c n) i ≡ roundTwo d n draw left i
   unfolding atCutOff
   by-rank draw i h =
       ap (λ t. bit (ltb c (d i)) + bit (eqb (d i) c) * bit (ltb t (left - larger d c n))) (turn-mod draw (equal d c n) (equal d c i))
-      ∙ sym (by-cut d n draw left c (cut .fewer) (cut .enough) i h)
+      ∙ sym (by-cut d n draw left c (cut .runs-out) i h)
 
   pub service : (draw : ℕ) (xs : List ℕ) → length xs ≡ n → added xs (byCutOff d c (draw % g) g (left - l)) ≡ added xs (roundTwo d n draw left)
   service draw xs e =

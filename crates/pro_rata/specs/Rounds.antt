@@ -1,13 +1,13 @@
 -- Pro rata: what its functions ask and promise.
 use Prim.Native.Nat.{ℕ, _+_, _*_, _≤_, _<_}
 use mathlib.Core.Path.{_≡_}
+use mathlib.Core.Option.{Option, none, some, Option·map}
 use mathlib.Core.List.{List}
-use lib.Dec.{eqb, ltb}
 use lib.ListN.{length, getD}
 use Rattle.series.specs.Series.{MOST_CONTRACTS, MOST_POSITIONS}
-use Rattle.series.specs.Sums.{bit, sumBelow, listed}
+use Rattle.series.specs.Sums.{sumBelow, listed}
 use Rattle.series.specs.Places.{total}
-use Rattle.series.specs.ProRata.{roundOne, decimals, larger, equal, turn}
+use Rattle.series.specs.ProRata.{roundOne, decimals, larger, equal}
 use Rattle.pro_rata.specs.declared.rounds.Percentage.{Percentage}
 use Rattle.pro_rata.specs.declared.rounds.RoundTwo.{RoundTwo}
 use Rattle.pro_rata.specs.declared.rounds.Cutoff.{Cutoff}
@@ -21,12 +21,12 @@ pub record Exercised (S T : ℕ) : Type 0 where
 
 -- a percentage in units of the 17th decimal
 abbrev pub units : Percentage → ℕ
-units p = p .high * 100000000 + p .low
+units p = p .high * 1000000000000 + p .low
 
--- nine decimals are in high, and the other eight in low
+-- the first five decimals are in high, and the other twelve in low
 pub record HighLow (p : Percentage) : Type 0 where
-  pub nine : p .high ≤ 1000000000
-  pub eight : p .low < 100000000
+  pub five : p .high ≤ 100000
+  pub twelve : p .low < 1000000000000
 
 -- what stands at i
 abbrev pub at : List ℕ → ℕ → ℕ
@@ -44,26 +44,20 @@ pub record Decimals (parts : List ℕ) (left : ℕ) : Type 0 where
   pub five : (i : ℕ) → i < length parts → at parts i < 100000
   pub most : left ≤ length parts
 
--- c is the decimal part at which what is left runs out: fewer positions than are left have a larger one, and at least as many have one as large or larger; l positions have a larger one and g have c
-pub record CutOffAt (d : ℕ → ℕ) (n left c l g : ℕ) : Type 0 where
-  pub five : c < 100000
-  pub fewer : larger d c n < left
-  pub enough : left ≤ larger d c n + equal d c n
-  pub larger-are : l ≡ larger d c n
-  pub tied-are : g ≡ equal d c n
+-- a cut-off, how many positions have a larger decimal part, and how many this one
+pub record Counted : Type 0 where
+  pub cut : ℕ
+  pub above : ℕ
+  pub tied : ℕ
 
--- the cut-off's answer: none exactly where nothing is left
-abbrev pub CutOff : (ℕ → ℕ) → ℕ → ℕ → Cutoff → Type 0
-CutOff d n left (At c l g) = CutOffAt d n left c l g
-CutOff d n left Nothing = left ≡ 0
+-- the cut-off of n positions, with its counts
+abbrev pub counted : (ℕ → ℕ) → ℕ → Option ℕ → Option Counted
+counted d n = Option·map (λ c. record { cut = c; above = larger d c n; tied = equal d c n })
 
--- what round two assigns to the position with decimal part x by the cut-off c: one contract if x is larger, and one if x is equal and its turn is among the first m of g
-unfoldable pub atCutOff : ℕ → ℕ → ℕ → ℕ → ℕ → ℕ → ℕ
-atCutOff c draw g m x k = bit (ltb c x) + bit (eqb x c) * bit (ltb (turn draw g k) m)
-
--- the same for position i, whose number among the tied ones is counted in list order
-abbrev pub byCutOff : (ℕ → ℕ) → ℕ → ℕ → ℕ → ℕ → ℕ → ℕ
-byCutOff d c draw g m i = atCutOff c draw g m (d i) (equal d c i)
+-- what each answer of the search hands back
+abbrev pub cutOffOf : Cutoff → Option Counted
+cutOffOf (At c l g) = some (record { cut = c; above = l; tied = g })
+cutOffOf Nothing = none
 
 -- the round begins with one of the tied positions and serves no more than them
 pub record Serving (r : RoundTwo) : Type 0 where

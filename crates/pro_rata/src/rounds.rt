@@ -5,11 +5,12 @@ ghost use Prim.Native.Nat.{_+_, _≤_, _<_};
 ghost use lib.Dec.{ltb};
 ghost use lib.ListN.{length};
 ghost use Rattle.series.specs.Series.{MOST_CONTRACTS, MOST_POSITIONS};
-ghost use Rattle.series.specs.ProRata.{percentage, wholePart, decimalPart, remainder, larger, equal, turn, roundTwo, proRata};
+ghost use Rattle.series.specs.ProRata.{percentage, wholePart, decimalPart, remainder, turn, roundTwo, proRata};
+ghost use Rattle.series.specs.CutOff.{atLeast, cutOff, atCutOff, byCutOff};
 ghost use Rattle.judging.specs.Judged.{JudgedSeries};
-ghost use Rattle.pro_rata.specs.Rounds.{Exercised, units, HighLow, RoundOneDone, at, Decimals, CutOff, atCutOff, byCutOff, Serving, RoomForOne, Servable, added};
+ghost use Rattle.pro_rata.specs.Rounds.{Exercised, units, HighLow, RoundOneDone, at, Decimals, counted, cutOffOf, Serving, RoomForOne, Servable, added};
 
-// The exercise percentage in units of the 17th decimal: high * 10^8 + low.
+// The exercise percentage in units of the 17th decimal: high * 10^12 + low.
 pub struct Percentage {
     high: u64,
     low: u64,
@@ -27,22 +28,22 @@ impl Percentage {
         requires { ⌜ Exercised (exercised .0) (total .0) ⌝ }
         ensures { λ r. ⌜ (units r ≡ percentage (exercised .0) (total .0)) × HighLow r ⌝ }
     {
-        let s = exercised.0 as u64;
+        let s = exercised.0 as u64 * 100_000_000;
         let t = total.0 as u64;
-        let billionths = s * 1_000_000_000;
+        let units = s / t * 1_000_000_000 + s % t * 1_000_000_000 / t;
         Percentage {
-            high: billionths / t,
-            low: billionths % t * 100_000_000 / t,
+            high: units / 1_000_000_000_000,
+            low: units % 1_000_000_000_000,
         }
     }
 
-    // The products stay below 2^64: shorts * high is at most 10^16.
+    // The products stay below 2^64: shorts * low is below 10^19.
     pub fn assignment(self, shorts: Contracts) -> Assignment
         requires { ⌜ (shorts .0 ≤ MOST_CONTRACTS) × HighLow self ⌝ }
         ensures { λ r. ⌜ (r .whole ≡ wholePart (units self) (shorts .0)) × (r .decimal ≡ decimalPart (units self) (shorts .0)) ⌝ }
     {
         let h = shorts.0 as u64;
-        let amount = (h * self.high + h * self.low / 100_000_000) / 10_000;
+        let amount = h * self.high + h * self.low / 1_000_000_000_000;
         Assignment {
             whole: (amount / 100_000) as u32,
             decimal: (amount % 100_000) as u32,
@@ -77,7 +78,7 @@ pub fn round_one(
 // How many positions have the decimal part x or a larger one.
 pub fn at_least(parts: &[u32], x: u32) -> u32
     requires { ⌜ length (now parts) ≤ MOST_POSITIONS ⌝ }
-    ensures { λ r. ⌜ r ≡ larger (at (now (parts .entry))) x (length (now (parts .entry))) + equal (at (now (parts .entry))) x (length (now (parts .entry))) ⌝ }
+    ensures { λ r. ⌜ r ≡ atLeast (at (now (parts .entry))) x (length (now (parts .entry))) ⌝ }
 {
     let mut count = 0u32;
     let mut i = 0;
@@ -90,7 +91,7 @@ pub fn at_least(parts: &[u32], x: u32) -> u32
     count
 }
 
-// The decimal part at which what is left runs out, and how many positions have a larger one and how many this one.
+// The cut-off: the decimal part at which the remainder runs out, how many positions have a larger one, and how many this one.
 pub enum Cutoff {
     At { cut: u32, larger: u32, tied: u32 },
     Nothing,
@@ -99,7 +100,7 @@ pub enum Cutoff {
 // Bisects the decimal parts: at least `left` positions have `low` or more, and fewer, `larger`, have `low + width` or more.
 pub fn cut_off(parts: &[u32], remainder: Contracts) -> Cutoff
     requires { ⌜ Decimals (now parts) (remainder .0) ⌝ }
-    ensures { λ r. ⌜ CutOff (at (now (parts .entry))) (length (now (parts .entry))) (remainder .0) r ⌝ }
+    ensures { λ r. ⌜ cutOffOf r ≡ counted (at (now (parts .entry))) (length (now (parts .entry))) (cutOff (at (now (parts .entry))) (length (now (parts .entry))) (remainder .0)) ⌝ }
 {
     let left = remainder.0;
     if left == 0 {
@@ -154,13 +155,14 @@ impl RoundTwo {
         requires { ⌜ Serving self × (part ≡ self .cut → number < self .tied) ⌝ }
         ensures { λ r. ⌜ r .0 ≡ atCutOff (self .cut) (self .first) (self .tied) (self .served) part number ⌝ }
     {
-        if self.cut < part {
-            return Contracts(1);
-        }
         if part == self.cut {
             if self.in_turn(number) {
                 return Contracts(1);
             }
+            return Contracts(0);
+        }
+        if self.cut < part {
+            return Contracts(1);
         }
         Contracts(0)
     }

@@ -13,7 +13,7 @@ use Rattle.series.specs.Sums.{sumBelow, bit, countBelow, listed}
 use Rattle.series.specs.Places.{total}
 use Rattle.series.specs.ProRata.{percentage, assignmentAmount, wholePart, decimalPart, roundOne, decimals, remainder, larger, equal, turn, rank, roundTwo, proRata, Tie}
 use Rattle.series.proofs.SumLaws.{listed-cong, getD-listed}
-use Rattle.series.proofs.ProRataLaws.{turn-first, turn-after, equal-le, equal-same, served, unserved, tied-served}
+use Rattle.series.proofs.ProRataLaws.{turn-first, turn-after, atLeast-parts, equal-le, equal-same, served, unserved, tied-served}
 
 round-two-same : (d : ℕ → ℕ) (n left : ℕ) → ((x : ℕ) → Tie d n left x → ⊥) → (draw draw2 i : ℕ) → i < n → roundTwo d n draw left i ≡ roundTwo d n draw2 left i
 round-two-same d n left none draw draw2 i h =
@@ -56,7 +56,7 @@ module _ (d : ℕ → ℕ) (n left x : ℕ) (tie : Tie d n left x) (i : ℕ) (at
 
   by-turn : (draw : ℕ) → roundTwo d n draw left i ≡ bit (ltb (turn draw g 0) (left - larger d x n))
   by-turn draw =
-      tied-served d n draw left x (tie .fewer) (omega arith) i at-x ∙ ap (λ k. bit (ltb (turn draw g k) (left - larger d x n))) first
+      tied-served d n draw left x (record { fewer = tie .fewer; enough = omega (arith, atLeast-parts d x n) }) i at-x ∙ ap (λ k. bit (ltb (turn draw g k) (left - larger d x n))) first
 
   served-by-0 : roundTwo d n 0 left i ≡ 1
   unfolding bit

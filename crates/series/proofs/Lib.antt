@@ -4,6 +4,7 @@ pub mod Starred
 pub mod Readings
 pub mod BeforeDraw
 pub mod OnePosition
+pub mod CutOffLaws
 pub mod DrawUnused
 pub mod ResultLaws
 pub mod RowLaws

@@ -1,6 +1,8 @@
 -- Laws of pro rata: round two hands out exactly the remainder, no amount exceeds the shorts, and each is less than one contract from its share.
 use Prim.Native.Nat.{ℕ, zero, suc, _+_, _-_, _*_, _/_, _%_, _^_, _≤_, _<_}
 use mathlib.Core.Path.{_≡_, refl, sym, ap, _∙_}
+use mathlib.Core.Bool.{cond}
+use mathlib.Core.Option.{none, some}
 use mathlib.Core.List.{List}
 use native.Mathlib.Omega.{arith}
 use native.Mathlib.Nat.{le-trans, le-of-lt, mod-lt, mod-eq-of-lt, add-mod-right, mul-le-mul-left, mul-le-mul-right, mul-lt-mul-of-pos-left, mul-div-le, div-mul-le-self, lt-div-mul-add, lt-mul-div-succ, le-of-mul-le-mul-left, lt-of-mul-lt-mul-left}
@@ -12,6 +14,7 @@ use Rattle.series.specs.Series.{MOST_CONTRACTS, MOST_POSITIONS}
 use Rattle.series.specs.Sums.{sumBelow, bit, countBelow}
 use Rattle.series.specs.Places.{total}
 use Rattle.series.specs.ProRata.{percentage, assignmentAmount, wholePart, decimalPart, roundOne, decimals, remainder, larger, equal, turn, rank, roundTwo, proRata}
+use Rattle.series.specs.CutOff.{atLeast, firstBelow, cutOff, RunsOutAt, atCutOff, byCutOff, roundTwoAt, roundTwoByCutOff}
 use Rattle.series.proofs.SumLaws.{sum-cong, sum-mono, sum-add, sum-scale, sum-const, sum-first, sum-term, total-term, sum-split, sum-numbered, bit-le, count-le, count-first, count-more, count-same, total-sum, total-listed, getD-listed, length-listed}
 
 -- number (draw modulo g) + 1 begins
@@ -45,10 +48,6 @@ sum-turns f draw g h =
     ap (sumBelow F) (sym parts) ∙ sum-split F s (g - s)
     ∙ omega (arith, first, second, sum-split f (g - s) s)
     ∙ ap (sumBelow f) swapped
-
--- how many of the first n positions have the decimal part x or a larger one
-unfoldable pub atLeast : (ℕ → ℕ) → ℕ → ℕ → ℕ
-atLeast d x n = countBelow (λ i. leb x (d i)) n
 
 bits-parts : (x e : ℕ) → bit (leb x e) ≡ bit (ltb x e) + bit (eqb e x)
 unfolding bit
@@ -154,13 +153,13 @@ ltb-shift a t l =
       | no g ↦ le-ltb (a + t) l (omega arith) ∙ sym (le-ltb t (l - a) (omega arith))
     ]
 
--- c is the decimal part at which what is left runs out: fewer positions than are left have a larger one, and at least as many have one as large or larger
-module _ (d : ℕ → ℕ) (n draw left c : ℕ) (fewer : larger d c n < left) (enough : left ≤ larger d c n + equal d c n) where
+-- what is left runs out at c
+module _ (d : ℕ → ℕ) (n draw left c : ℕ) (at : RunsOutAt d n left c) where
   pub above-served : (i : ℕ) → i < n → c < d i → roundTwo d n draw left i ≡ 1
   above-served i h l = served d n draw left i h (omega (arith, atLeast-parts d (d i) n, larger-next d c n, atLeast-falls d (suc c) (d i) n l))
 
   pub below-unserved : (i : ℕ) → d i < c → roundTwo d n draw left i ≡ 0
-  below-unserved i l = unserved d n draw left i (omega (arith, atLeast-parts d c n, larger-next d (d i) n, atLeast-falls d (suc (d i)) c n l))
+  below-unserved i l = unserved d n draw left i (omega (arith, larger-next d (d i) n, atLeast-falls d (suc (d i)) c n l))
 
   -- of the tied positions those are served whose turn is among the first m, where m can be served
   pub tied-served : (i : ℕ) → d i ≡ c → roundTwo d n draw left i ≡ bit (ltb (turn draw (equal d c n) (equal d c i)) (left - larger d c n))
@@ -168,8 +167,8 @@ module _ (d : ℕ → ℕ) (n draw left c : ℕ) (fewer : larger d c n < left) (
   tied-served i e = rw e (ap bit (ltb-shift (larger d c n) (turn draw (equal d c n) (equal d c i)) left))
 
   -- one contract to a position above the cut-off, by turn to one at it, none below
-  pub by-cut : (i : ℕ) → i < n → roundTwo d n draw left i ≡ bit (ltb c (d i)) + bit (eqb (d i) c) * bit (ltb (turn draw (equal d c n) (equal d c i)) (left - larger d c n))
-  unfolding bit
+  pub by-cut : (i : ℕ) → i < n → roundTwo d n draw left i ≡ byCutOff d c draw (equal d c n) (left - larger d c n) i
+  unfolding bit atCutOff
   by-cut i h =
       elim (decLt c (d i)) [
         | yes l ↦ above-served i h l ∙ rw (lt-ltb c (d i) l, ne-eqb (d i) c (omega arith)) (omega arith)
@@ -182,7 +181,7 @@ module _ (d : ℕ → ℕ) (n draw left c : ℕ) (fewer : larger d c n < left) (
 
   -- all larger ones and m of the tied ones are served
   sum-by-cut : sumBelow (roundTwo d n draw left) n ≡ left
-  unfolding larger equal countBelow
+  unfolding larger equal countBelow atCutOff
   sum-by-cut =
       let g : ℕ = equal d c n in
       let m : ℕ = left - larger d c n in
@@ -192,33 +191,97 @@ module _ (d : ℕ → ℕ) (n draw left c : ℕ) (fewer : larger d c n < left) (
       ∙ omega (
         arith,
         sum-numbered (λ i. eqb (d i) c) S n,
-        sum-turns (λ k. bit (ltb k m)) draw g (omega arith),
-        count-first m g (omega arith),
+        sum-turns (λ k. bit (ltb k m)) draw g (omega (arith, atLeast-parts d c n)),
+        count-first m g (omega (arith, atLeast-parts d c n)),
       )
 
--- a number at which a falling count passes `left`
-cut-below : (d : ℕ → ℕ) (n left b : ℕ) → left ≤ atLeast d 0 n → atLeast d b n < left → (c : ℕ) × (larger d c n < left) × (left ≤ larger d c n + equal d c n)
-cut-below d n left zero h l = absurd (omega arith)
-cut-below d n left (suc b) h l =
+-- a count that falls from `left` or more to less passes it once
+first-below : (d : ℕ → ℕ) (n left b : ℕ) → left ≤ atLeast d 0 n → atLeast d b n < left → (c : ℕ) × (firstBelow d n left b ≡ some c) × RunsOutAt d n left c
+unfolding firstBelow
+first-below d n left zero h l = absurd (omega arith)
+first-below d n left (suc b) h l =
     elim (decLe left (atLeast d b n)) [
-      | yes e ↦ (b, omega (arith, larger-next d b n), omega (arith, atLeast-parts d b n))
-      | no g ↦ cut-below d n left b h (omega arith)
+      | yes e ↦ (
+        b,
+        rw (le-leb left (atLeast d b n) e) refl,
+        record { fewer = omega (arith, larger-next d b n); enough = e },
+      )
+      | no g ↦
+          let c = first-below d n left b h (omega arith) in
+          (c .0, rw (lt-leb left (atLeast d b n) (omega arith)) (c .1), c .2)
     ]
 
--- where something is left and no more than the positions can take, there is a cut-off
-pub cut-off : (d : ℕ → ℕ) (n left b : ℕ) → ((i : ℕ) → i < n → d i < b) → 0 < left → left ≤ n → (c : ℕ) × (larger d c n < left) × (left ≤ larger d c n + equal d c n)
-cut-off d n left b h p l = cut-below d n left b (omega (arith, atLeast-all d n)) (omega (arith, atLeast-none d b n h))
+-- what is left runs out at one decimal part only
+pub runs-out-once : (d : ℕ → ℕ) (n left c c2 : ℕ) → RunsOutAt d n left c → RunsOutAt d n left c2 → c ≡ c2
+runs-out-once d n left c c2 at at2 =
+    elim (decLt c c2) [
+      | yes l ↦ absurd (omega (arith, larger-next d c n, atLeast-falls d (suc c) c2 n l))
+      | no g ↦
+          elim (decLt c2 c) [
+            | yes l ↦ absurd (omega (arith, larger-next d c2 n, atLeast-falls d (suc c2) c n l))
+            | no g′ ↦ omega arith
+          ]
+    ]
 
--- round two hands out exactly what is left, one contract to a position
-pub round-two-sum : (d : ℕ → ℕ) (n draw left b : ℕ) → ((i : ℕ) → i < n → d i < b) → left ≤ n → sumBelow (roundTwo d n draw left) n ≡ left
-round-two-sum d n draw zero b h l =
-    sum-cong (roundTwo d n draw 0) (λ _. 0) n (λ i _. unserved d n draw 0 i (omega arith)) ∙ omega (arith, sum-const 0 n)
-round-two-sum d n draw (suc left) b h l =
-    let cut = cut-off d n (suc left) b h (omega arith) l in sum-by-cut d n draw (suc left) (cut .0) (cut .1) (cut .2)
+-- none is found where nothing is left
+pub no-cut-off : (d : ℕ → ℕ) (n left : ℕ) → left ≡ 0 → cutOff d n left ≡ none
+unfolding cutOff
+no-cut-off d n left e = rw (eq-eqb left 0 e) refl
+
+-- the decimal parts of n positions, and what is left for them, one contract to a position
+module _ (d : ℕ → ℕ) (n left : ℕ) (five : (i : ℕ) → i < n → d i < 100000) (most : left ≤ n) where
+  -- where something is left there is a cut-off
+  pub cut-off : 0 < left → (c : ℕ) × (cutOff d n left ≡ some c) × RunsOutAt d n left c
+  unfolding cutOff
+  cut-off some-left =
+      rw (ne-eqb left 0 (λ e. omega arith)) (first-below d n left 100000 (omega (arith, atLeast-all d n)) (omega (arith, atLeast-none d 100000 n five)))
+
+  -- and what is left runs out there
+  pub cut-off-is : (c : ℕ) → cutOff d n left ≡ some c → RunsOutAt d n left c
+  cut-off-is c e =
+      elim (ℕ-discrete left 0) [
+        | yes z ↦ let none-is = no-cut-off d n left z in let z : _≡_ {A = ℕ} 0 1 = cc in absurd (omega arith)
+        | no g ↦ let cut = cut-off (omega arith) in let same : cut .0 ≡ c = cc (cut .1) in rw (← same) (cut .2)
+      ]
+
+  -- and at no other decimal part
+  pub cut-off-only : (c : ℕ) → RunsOutAt d n left c → cutOff d n left ≡ some c
+  cut-off-only c at =
+      let cut = cut-off (omega (arith, at .fewer)) in cut .1 ∙ ap some (runs-out-once d n left (cut .0) c (cut .2) at)
+
+  -- where none is found nothing is left
+  pub none-left : cutOff d n left ≡ none → left ≡ 0
+  none-left e =
+      elim (ℕ-discrete left 0) [
+        | yes z ↦ z
+        | no g ↦ let cut = cut-off (omega arith) in let z : _≡_ {A = ℕ} 0 1 = cc (cut .1) in absurd (omega arith)
+      ]
+
+  -- round two by rank is round two by the cut-off
+  pub round-two-by-cut-off : (draw i : ℕ) → i < n → roundTwo d n draw left i ≡ roundTwoByCutOff d n draw left i
+  unfolding roundTwoByCutOff roundTwoAt
+  round-two-by-cut-off draw i h =
+      elim (ℕ-discrete left 0) [
+        | yes z ↦ unserved d n draw left i (omega arith) ∙ rw (no-cut-off d n left z) refl
+        | no g ↦ let cut = cut-off (omega arith) in by-cut d n draw left (cut .0) (cut .2) i h ∙ rw (cut .1) refl
+      ]
+
+  -- round two hands out exactly what is left, one contract to a position
+  pub round-two-sum : (draw : ℕ) → sumBelow (roundTwo d n draw left) n ≡ left
+  round-two-sum draw =
+      elim (ℕ-discrete left 0) [
+        | yes z ↦ sum-cong (roundTwo d n draw left) (λ _. 0) n (λ i _. unserved d n draw left i (omega arith)) ∙ omega (arith, sum-const 0 n)
+        | no g ↦ let cut = cut-off (omega arith) in sum-by-cut d n draw left (cut .0) (cut .2)
+      ]
 
 -- what round one leaves of a position's share, in parts of T of a contract
 residue : ℕ → ℕ → ℕ → ℕ
 residue T S h = h * S - T * wholePart (percentage S T) h
+
+-- a decimal part has five digits
+pub decimal-part-lt : (q h : ℕ) → decimalPart q h < 100000
+unfolding decimalPart
+decimal-part-lt q h = omega arith
 
 -- the two truncations
 module _ (T S h : ℕ) (pos : 0 < T) (few : T ≤ MOST_CONTRACTS) (part : h ≤ T) where
@@ -228,9 +291,8 @@ module _ (T S h : ℕ) (pos : 0 < T) (few : T ≤ MOST_CONTRACTS) (part : h ≤ 
   abbrev x : ℕ
   x = decimalPart (percentage S T) h
 
-  pub decimal-lt : x < 100000
-  unfolding decimalPart
-  decimal-lt = omega arith
+  decimal-lt : x < 100000
+  decimal-lt = decimal-part-lt (percentage S T) h
 
   amount-parts : assignmentAmount (percentage S T) h ≡ 100000 * w + x
   unfolding wholePart decimalPart
@@ -412,7 +474,7 @@ module _ (hs : List ℕ) (S : ℕ) (pos : 0 < total hs) (few : total hs ≤ MOST
     pro-rata-sum =
         total-listed amount n
         ∙ sum-add (roundOne hs S) (roundTwo d n draw left) n
-        ∙ omega (arith, round-two-sum d n draw left 100000 decimals-lt remainder-le, rounds)
+        ∙ omega (arith, round-two-sum d n left decimals-lt remainder-le draw, rounds)
 
     pub pro-rata-at : (i : ℕ) → i < n → getD (proRata hs S draw) i 0 ≡ amount i
     unfolding proRata

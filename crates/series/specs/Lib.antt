@@ -1,4 +1,4 @@
--- Document 01 as definitions, in its order: words and places, a series, the wheel, pro rata, the starting number, the refusals, the call.
+-- Document 01 as definitions, in its order: words and places, a series, the wheel, pro rata (with document 02's cut-off), the starting number, the refusals, the call.
 pub mod Ascii
 pub mod Results
 pub mod Outputs
@@ -7,6 +7,7 @@ pub mod Places
 pub mod Series
 pub mod Wheel
 pub mod ProRata
+pub mod CutOff
 pub mod Lottery
 pub mod Refusals
 pub mod Answers

@@ -9,7 +9,8 @@ use lib.Dec.{leb}
 use lib.ListN.{length}
 use Rattle.series.specs.Sums.{countBelow, sumBelow}
 use Rattle.series.proofs.SumLaws.{count-more, count-same}
-use Rattle.series.proofs.ProRataLaws.{atLeast, atLeast-le, atLeast-parts}
+use Rattle.series.specs.CutOff.{atLeast}
+use Rattle.series.proofs.ProRataLaws.{atLeast-le}
 use Rattle.pro_rata.specs.Rounds.{at}
 use Rattle.pro_rata.proofs.rounds.at_least.Statement.{statement}
 use Rattle.pro_rata.proofs.rounds.at_least.Tie as tie
@@ -60,7 +61,7 @@ returns c = let start = c .before .before in
     let d = at (start .args .parts .now) in
     let x = start .args .x in
     let e : c .before .loop .i ≡ length (start .args .parts .now) = omega arith in
-    c .before .loop .inv .1 ∙ ap (atLeast d x) e ∙ atLeast-parts d x (length (start .args .parts .now))
+    c .before .loop .inv .1 ∙ ap (atLeast d x) e
 
 pub at-least-spec : {M : Type 1} → statement M
 at-least-spec =

@@ -1,12 +1,13 @@
 -- `cut_off` meets its contract. The invariant: at least `left` positions have `low` or more, and fewer have `low + width` or more; both are counted. The measure is the width.
-use Prim.Native.Nat.{suc, _+_, _-_, _/_, _≤_, _<_}
+use Prim.Native.Nat.{_+_, _-_, _/_, _≤_, _<_}
 use mathlib.Core.Path.{_≡_, ap}
 use native.Mathlib.Omega.{arith}
 use borrow.Author.Needs.{needs}
 use lib.ListN.{length}
-use Rattle.series.specs.ProRata.{larger}
-use Rattle.series.proofs.ProRataLaws.{atLeast, atLeast-parts, atLeast-all, atLeast-none, larger-next}
+use Rattle.series.specs.CutOff.{atLeast}
+use Rattle.series.proofs.ProRataLaws.{atLeast-all, atLeast-none}
 use Rattle.pro_rata.specs.Rounds.{at}
+use Rattle.pro_rata.proofs.RoundTwoLaws.{found, none-found}
 use Rattle.pro_rata.proofs.rounds.cut_off.Statement.{statement}
 use Rattle.pro_rata.proofs.rounds.cut_off.Tie as tie
 
@@ -17,7 +18,7 @@ abbrev μ-loop : tie.MeasureT-loop
 μ-loop parts left low₀ width₀ enough₀ larger₀ low width enough larger = width
 
 returns : tie.Need-returns Inv-loop μ-loop
-returns c = omega arith
+returns c = none-found _ _ _ (c .before .before .pre .five) (c .before .before .pre .most) (c .if1 .taken)
 
 cast-enough : tie.Need-cast-enough Inv-loop μ-loop
 cast-enough c = search needs
@@ -47,28 +48,21 @@ loop-again c = let loop = c .before .before .before .loop in
     let d = at (c .before .before .before .before .before .before .args .parts .now) in
     let n = length (c .before .before .before .before .before .before .args .parts .now) in
     let e : loop .low + loop .width / 2 + (loop .width - loop .width / 2) ≡ loop .low + loop .width = omega arith in
-    omega (arith, atLeast-parts d (loop .low + loop .width / 2) n, c .before .at-least .ensures, ap (λ x. atLeast d x n) e)
+    omega (arith, c .before .at-least .ensures, ap (λ x. atLeast d x n) e)
 
 loop-less-2 : tie.Need-loop-less-2 Inv-loop μ-loop
 loop-less-2 c = omega arith
 
 loop-again-2 : tie.Need-loop-again-2 Inv-loop μ-loop
-loop-again-2 c = let loop = c .before .before .before .loop in
-    let d = at (c .before .before .before .before .before .before .args .parts .now) in
-    let n = length (c .before .before .before .before .before .before .args .parts .now) in
-    omega (arith, atLeast-parts d (loop .low + loop .width / 2) n, c .before .at-least .ensures)
+loop-again-2 c = omega (arith, c .before .at-least .ensures)
 
 sub-t14 : tie.Need-sub-t14 Inv-loop μ-loop
 sub-t14 c = omega arith
 
 returns-2 : tie.Need-returns-2 Inv-loop μ-loop
 returns-2 c = let loop = c .before .loop in
-    let d = at (c .before .before .before .before .args .parts .now) in
-    let n = length (c .before .before .before .before .args .parts .now) in
-    let e : loop .low + loop .width ≡ suc (loop .low) = omega arith in
-    let above : loop .larger ≡ larger d (loop .low) n = omega (arith, larger-next d (loop .low) n, ap (λ x. atLeast d x n) e) in
-    let all = atLeast-parts d (loop .low) n in
-    record { five = omega arith; fewer = omega arith; enough = omega arith; larger-are = above; tied-are = omega arith }
+    let start = c .before .before .before .before in
+    found _ _ _ (start .pre .five) (start .pre .most) (loop .low) (loop .low + loop .width) (loop .enough) (loop .larger) (omega arith) (loop .inv .4) (loop .inv .5) (loop .inv .2) (loop .inv .3)
 
 pub cut-off-spec : {M : Type 1} → statement M
 cut-off-spec =

@@ -1,21 +1,22 @@
 -- `round_two` meets its contract: where nothing is left the amounts stand; otherwise the walk by the cut-off serves as the rules do.
 use Prim.Native.Nat.{_+_}
-use mathlib.Core.Path.{_≡_, subst, _∙_}
+use mathlib.Core.Path.{_≡_, sym, ap, _∙_}
 use native.Mathlib.Omega.{arith}
 use native.Mathlib.Nat.{mod-lt}
 use lib.ListN.{length}
 use Rattle.series.specs.ProRata.{roundTwo}
 use Rattle.series.proofs.ProRataLaws.{unserved, equal-le}
-use Rattle.pro_rata.specs.Rounds.{at, CutOff, CutOffAt}
+use Rattle.pro_rata.specs.Rounds.{at, cutOffOf}
 use Rattle.series.proofs.ListLaws.{listed-elements}
-use Rattle.pro_rata.proofs.RoundTwoLaws.{tied-some, serves, service}
+use Rattle.pro_rata.proofs.RoundTwoLaws.{CutOffAt, is-cut-off, is-none, tied-some, serves, service}
 use borrow.Author.Needs.{needs}
 use Rattle.pro_rata.proofs.rounds.round_two.Statement.{statement}
 use Rattle.pro_rata.proofs.rounds.round_two.Tie as tie
 
 -- what the cut-off promises where there is one
 at-cut : (c : tie.After-cut) → CutOffAt (at (c .before .before .before .before .before .args .parts .now)) (length (c .before .before .before .before .before .args .parts .now)) (c .before .before .before .before .before .args .remainder .0) (c .cut .given .0 .0) (c .cut .given .0 .1 .0) (c .cut .given .0 .1 .1 .0)
-at-cut c = subst (CutOff _ _ _) (c .cut .given .1) (c .before .before .cut-off .ensures)
+at-cut c = let start = c .before .before .before .before .before in
+    is-cut-off _ _ _ (start .pre .0 .five) (start .pre .0 .most) _ _ _ (ap cutOffOf (sym (c .cut .given .1)) ∙ c .before .before .cut-off .ensures)
 
 cut-off-requires : tie.Need-cut-off-requires
 cut-off-requires c κs = search needs
@@ -30,7 +31,7 @@ returns : tie.Need-returns
 returns c = let start = c .before .before .before .before .before in
     let parts = start .args .parts .now in
     let left = start .args .remainder .0 in
-    let none : left ≡ 0 = subst (CutOff _ _ _) (c .enum-told .given .1) (c .before .before .cut-off .ensures) in
+    let none : left ≡ 0 = is-none _ _ _ (start .pre .0 .five) (start .pre .0 .most) (ap cutOffOf (sym (c .enum-told .given .1)) ∙ c .before .before .cut-off .ensures) in
     listed-elements (λ i. at (start .args .amounts .now) i + roundTwo (at parts) (length parts) (start .args .draw) left i) (start .args .amounts .now)
     (λ i h. omega (arith, unserved (at parts) (length parts) (start .args .draw) left i (omega arith)))
 
@@ -38,7 +39,7 @@ rem-t10 : tie.Need-rem-t10
 rem-t10 c = tied-some _ _ _ _ _ _ (at-cut (c .before))
 
 sub-t11 : tie.Need-sub-t11
-sub-t11 c = let promise = at-cut (c .before .before) in omega (arith, promise .fewer, promise .larger-are)
+sub-t11 c = let promise = at-cut (c .before .before) in omega (arith, promise .runs-out .fewer, promise .larger-are)
 
 serve-requires : tie.Need-serve-requires
 serve-requires c κs = let start = c .before .before .before .before .before .before .before .before in

@@ -8,8 +8,9 @@ use borrow.Author.Needs.{needs}
 use lib.ListN.{length}
 use Rattle.series.specs.Sums.{listed, countBelow, sumBelow}
 use Rattle.series.specs.ProRata.{equal}
+use Rattle.series.specs.CutOff.{atCutOff, byCutOff}
 use Rattle.series.proofs.ProRataLaws.{equal-more, equal-same, equal-before}
-use Rattle.pro_rata.specs.Rounds.{at, atCutOff, byCutOff}
+use Rattle.pro_rata.specs.Rounds.{at}
 use Rattle.pro_rata.specs.declared.rounds.RoundTwo.{RoundTwo}
 use Rattle.series.proofs.ListLaws.{filled, fill-none, fill-more, fill-rest, fill-all, fill-length}
 use Rattle.pro_rata.proofs.RoundTwoLaws.{one-most}

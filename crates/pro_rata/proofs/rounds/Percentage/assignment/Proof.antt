@@ -1,4 +1,4 @@
--- `Percentage::assignment` meets its contract: the amount is the definition's, divided in two steps.
+-- `Percentage::assignment` meets its contract: the amount is the definition's, its product in two parts.
 use Prim.Native.Nat.{_/_, _%_}
 use mathlib.Core.Path.{ap}
 use native.Mathlib.Omega.{arith}
@@ -13,19 +13,19 @@ cast-h : tie.Need-cast-h
 cast-h c = search needs
 
 mul-amount : tie.Need-mul-amount
-mul-amount c = omega (arith, mul-le-mul (c .before .before .pre .0) (c .before .before .pre .1 .nine))
+mul-amount c = omega (arith, mul-le-mul (c .before .before .pre .0) (c .before .before .pre .1 .five))
 
 mul-amount-2 : tie.Need-mul-amount-2
-mul-amount-2 c = omega (arith, mul-le-mul (c .before .before .before .pre .0) (le-of-lt (c .before .before .before .pre .1 .eight)))
+mul-amount-2 c = omega (arith, mul-le-mul (c .before .before .before .pre .0) (le-of-lt (c .before .before .before .pre .1 .twelve)))
 
 add-amount : tie.Need-add-amount
-add-amount c = omega (arith, mul-le-mul (c .before .before .before .pre .0) (c .before .before .before .pre .1 .nine), mul-le-mul (c .before .before .before .pre .0) (le-of-lt (c .before .before .before .pre .1 .eight)))
+add-amount c = omega (arith, mul-le-mul (c .before .before .before .pre .0) (c .before .before .before .pre .1 .five), mul-le-mul (c .before .before .before .pre .0) (le-of-lt (c .before .before .before .pre .1 .twelve)))
+
+cast-t8 : tie.Need-cast-t8
+cast-t8 c = omega (arith, mul-le-mul (c .before .before .before .pre .0) (c .before .before .before .pre .1 .five), mul-le-mul (c .before .before .before .pre .0) (le-of-lt (c .before .before .before .pre .1 .twelve)))
 
 cast-t9 : tie.Need-cast-t9
-cast-t9 c = omega (arith, mul-le-mul (c .before .before .before .pre .0) (c .before .before .before .pre .1 .nine), mul-le-mul (c .before .before .before .pre .0) (le-of-lt (c .before .before .before .pre .1 .eight)))
-
-cast-t10 : tie.Need-cast-t10
-cast-t10 c = search needs
+cast-t9 c = search needs
 
 returns : tie.Need-returns
 unfolding wholePart decimalPart
@@ -34,4 +34,5 @@ returns c = let a = c .before .before .before .args in
     (ap (_/ 100000) e, ap (_% 100000) e)
 
 pub assignment-spec : {M : Type 1} → statement M
-assignment-spec = tie.close (tie.spec cast-h mul-amount mul-amount-2 add-amount cast-t9 cast-t10 returns)
+assignment-spec =
+    tie.close (tie.spec cast-h mul-amount mul-amount-2 add-amount cast-t8 cast-t9 returns)
