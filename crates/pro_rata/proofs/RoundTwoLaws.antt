@@ -12,9 +12,9 @@ use lib.Dec.{eqb, ltb}
 use lib.ListN.{length}
 use Rattle.series.specs.Sums.{bit}
 use Rattle.series.specs.ProRata.{turn, larger, equal, roundTwo}
-use Rattle.series.specs.CutOff.{atLeast, cutOff, RunsOutAt, atCutOff, byCutOff}
+use Rattle.series.specs.CutOff.{atLeast, cutOff, RunsOutAt, atCutOff, byCutOff, roundTwoAt, roundTwoByCutOff}
 use Rattle.series.proofs.SumLaws.{bit-le, listed-cong}
-use Rattle.series.proofs.ProRataLaws.{turn-first, turn-after, atLeast-parts, larger-next, no-cut-off, cut-off-is, cut-off-only, none-left, by-cut}
+use Rattle.series.proofs.ProRataLaws.{turn-first, turn-after, atLeast-parts, larger-next, no-cut-off, cut-off-is, cut-off-only, none-left, round-two-by-cut-off}
 use Rattle.pro_rata.specs.Rounds.{at, added, counted, cutOffOf}
 use Rattle.pro_rata.specs.declared.rounds.Cutoff.the-variants.{At, Nothing}
 
@@ -58,15 +58,15 @@ turn-mod draw g k = ap (λ s. (k + (g - s)) % g) (mod-mod draw g)
 
 -- what the search hands back of a cut-off c: l positions have a larger decimal part and g have c
 pub record CutOffAt (d : ℕ → ℕ) (n left c l g : ℕ) : Type 0 where
-  pub runs-out : RunsOutAt d n left c
+  pub is : cutOff d n left ≡ some c
   pub larger-are : l ≡ larger d c n
   pub tied-are : g ≡ equal d c n
 
 module _ (d : ℕ → ℕ) (n left : ℕ) (five : (i : ℕ) → i < n → d i < 100000) (most : left ≤ n) where
   -- where at least as many positions as are left have c or more, and fewer c + 1 or more, that is the cut-off with its counts
-  pub found : (c high enough l : ℕ) → high ≡ c + 1 → enough ≡ atLeast d c n → l ≡ atLeast d high n → left ≤ enough → l < left → cutOffOf (At c l (enough - l)) ≡ counted d n (cutOff d n left)
-  found c high enough l one counts more more-than fewer =
-      let above : l ≡ larger d c n = more ∙ ap (λ x. atLeast d x n) (one ∙ add-one c) ∙ sym (larger-next d c n) in
+  pub found : (c next enough l : ℕ) → next ≡ c + 1 → enough ≡ atLeast d c n → l ≡ atLeast d next n → left ≤ enough → l < left → cutOffOf (At c l (enough - l)) ≡ counted d n (cutOff d n left)
+  found c next enough l one enough-are l-are some-left fewer =
+      let above : l ≡ larger d c n = l-are ∙ ap (λ x. atLeast d x n) (one ∙ add-one c) ∙ sym (larger-next d c n) in
       let share : enough - l ≡ equal d c n = omega (arith, atLeast-parts d c n) in
       rw (cut-off-only d n left five most c (record { fewer = omega arith; enough = omega arith }), share, above)
 
@@ -83,7 +83,7 @@ module _ (d : ℕ → ℕ) (n left : ℕ) (five : (i : ℕ) → i < n → d i < 
           let k = Option·some-injective _ _ e in
           let same : c ≡ x = ap (λ a. a .cut) k in
           record {
-            runs-out = cut-off-is d n left five most c (q ∙ ap some (sym same));
+            is = q ∙ ap some (sym same);
             larger-are = ap (λ a. a .above) k ∙ ap (λ y. larger d y n) (sym same);
             tied-are = ap (λ a. a .tied) k ∙ ap (λ y. equal d y n) (sym same);
           }
@@ -95,21 +95,28 @@ module _ (d : ℕ → ℕ) (n left : ℕ) (five : (i : ℕ) → i < n → d i < 
       by-cases none q e = none-left d n left five most q
       by-cases (some x) q e = let z : _≡_ {A = ℕ} 0 1 = cc in absurd (omega arith)
 
--- the service by the cut-off is that of the rules
-module _ (d : ℕ → ℕ) (n left c l g : ℕ) (cut : CutOffAt d n left c l g) where
-  pub tied-some : 0 < g
-  tied-some = omega (arith, cut .runs-out .fewer, cut .runs-out .enough, cut .tied-are, atLeast-parts d c n)
+  -- the walk by the cut-off serves as the rules do
+  module _ (c l g : ℕ) (cut : CutOffAt d n left c l g) where
+    runs-out : RunsOutAt d n left c
+    runs-out = cut-off-is d n left five most c (cut .is)
 
-  pub serves : left - l ≤ g
-  serves = omega (arith, cut .runs-out .enough, cut .larger-are, cut .tied-are, atLeast-parts d c n)
+    pub larger-lt : l < left
+    larger-lt = omega (arith, runs-out .fewer, cut .larger-are)
 
-  by-rank : (draw i : ℕ) → i < n → byCutOff d c (draw % equal d c n) (equal d c n) (left - larger d c n) i ≡ roundTwo d n draw left i
-  unfolding atCutOff
-  by-rank draw i h =
-      ap (λ t. bit (ltb c (d i)) + bit (eqb (d i) c) * bit (ltb t (left - larger d c n))) (turn-mod draw (equal d c n) (equal d c i))
-      ∙ sym (by-cut d n draw left c (cut .runs-out) i h)
+    pub tied-some : 0 < g
+    tied-some = omega (arith, runs-out .fewer, runs-out .enough, cut .tied-are, atLeast-parts d c n)
 
-  pub service : (draw : ℕ) (xs : List ℕ) → length xs ≡ n → added xs (byCutOff d c (draw % g) g (left - l)) ≡ added xs (roundTwo d n draw left)
-  service draw xs e =
-      listed-cong (λ i. at xs i + byCutOff d c (draw % g) g (left - l) i) (λ i. at xs i + roundTwo d n draw left i) (length xs)
-      (λ i h. ap (at xs i +_) (ap₂ (λ g l. byCutOff d c (draw % g) g (left - l) i) (cut .tied-are) (cut .larger-are) ∙ by-rank draw i (omega arith)))
+    pub serves : left - l ≤ g
+    serves = omega (arith, runs-out .enough, cut .larger-are, cut .tied-are, atLeast-parts d c n)
+
+    by-rank : (draw i : ℕ) → i < n → byCutOff d c (draw % equal d c n) (equal d c n) (left - larger d c n) i ≡ roundTwo d n draw left i
+    unfolding atCutOff roundTwoAt roundTwoByCutOff
+    by-rank draw i h =
+        ap (λ t. bit (ltb c (d i)) + bit (eqb (d i) c) * bit (ltb t (left - larger d c n))) (turn-mod draw (equal d c n) (equal d c i))
+        ∙ sym (ap (λ o. roundTwoAt o d n draw left i) (cut .is))
+        ∙ sym (round-two-by-cut-off d n left five most draw i h)
+
+    pub service : (draw : ℕ) (xs : List ℕ) → length xs ≡ n → added xs (byCutOff d c (draw % g) g (left - l)) ≡ added xs (roundTwo d n draw left)
+    service draw xs e =
+        listed-cong (λ i. at xs i + byCutOff d c (draw % g) g (left - l) i) (λ i. at xs i + roundTwo d n draw left i) (length xs)
+        (λ i h. ap (at xs i +_) (ap₂ (λ g l. byCutOff d c (draw % g) g (left - l) i) (cut .tied-are) (cut .larger-are) ∙ by-rank draw i (omega arith)))

@@ -122,10 +122,11 @@ pub fn cut_off(parts: &[u32], remainder: Contracts) -> Cutoff
             larger = count;
         }
     }
+    let tied = enough - larger;
     Cutoff::At {
         cut: low,
         larger,
-        tied: enough - larger,
+        tied,
     }
 }
 

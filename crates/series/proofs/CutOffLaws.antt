@@ -2,8 +2,9 @@
 use Prim.Native.Nat.{ℕ, _+_, _≤_, _<_}
 use mathlib.Core.Path.{_≡_, refl, ap, _∙_}
 use mathlib.Core.Option.{Option, none, some}
-use mathlib.Core.List.{List, [], _∷_, map}
+use mathlib.Core.List.{List, [], _∷_}
 use native.Mathlib.Omega.{arith}
+use native.Mathlib.Decide.{ℕ-discrete}
 use lib.ListN.{length}
 use Rattle.series.specs.Sums.{sumBelow, bit, countBelow, listed}
 use Rattle.series.specs.Places.{total}
@@ -13,7 +14,7 @@ use Rattle.series.specs.CutOff.{atLeast, cutOff, RunsOutAt, roundTwoByCu
 use Rattle.series.specs.Refusals.{Accepted}
 use Rattle.series.proofs.SumLaws.{listed-cong}
 use Rattle.series.proofs.AcceptedLaws.{Facts, accepted-facts}
-use Rattle.series.proofs.ProRataLaws.{atLeast-parts, decimals-lt, remainder-le, no-cut-off, cut-off-is, cut-off-only, none-left, round-two-by-cut-off}
+use Rattle.series.proofs.ProRataLaws.{atLeast-parts, decimals-lt, remainder-above, remainder-le, no-cut-off, cut-off-is, cut-off-only, none-left, round-two-by-cut-off}
 
 -- the decimal parts of a series, the number of its positions, and the contracts that remain for round two
 abbrev d : Series → ℕ → ℕ
@@ -64,6 +65,14 @@ module _ (s : Series) (room : ℕ) (ok : Accepted s room) where
   pub some-have-it : (c : ℕ) → cut s ≡ some c → 0 < equal (d s) c (n s)
   some-have-it c e = omega (arith, fewer-have-larger c e, enough-have-it c e, atLeast-parts (d s) c (n s))
 
+  -- It is above 0: no position without a decimal part is served.
+  pub cut-off-above-0 : (c : ℕ) → cut s ≡ some c → 0 < c
+  cut-off-above-0 c e =
+      elim (ℕ-discrete c 0) [
+        | yes z ↦ absurd (omega (arith, fewer-have-larger c e, ap (λ x. larger (d s) x (n s)) z, remainder-above (s .shorts) (exercised s) some-total (facts .total-most) (facts .few) (facts .exercised-most)))
+        | no g ↦ omega arith
+      ]
+
   -- A tie is at the cut-off.
   pub tie-at-cut-off : (x : ℕ) → Tie (d s) (n s) (left s) x → cut s ≡ some x
   tie-at-cut-off x tie = only-cut-off x (record { fewer = tie .fewer; enough = omega (arith, atLeast-parts (d s) x (n s)) })
@@ -77,20 +86,24 @@ module _ (s : Series) (room : ℕ) (ok : Accepted s room) where
   unfolding proRata
   amounts-by-cut-off draw = listed-cong _ _ (n s) (λ i h. ap (roundOne (s .shorts) (exercised s) i +_) (by-rank-by-cut-off draw i h))
 
--- The cut-offs of the starred series F, G, H, J and K, and of one where nothing remains.
+-- the cut-off of a list with S exercised
 abbrev cutOffIn : List ℕ → ℕ → Option ℕ
 cutOffIn hs S = cutOff (decimals hs S) (length hs) (remainder hs S)
 
-known : (hs : List ℕ) (S c : ℕ) → 0 < total hs → total hs ≤ MOST_CONTRACTS → length hs ≤ MOST_POSITIONS → S ≤ total hs → RunsOutAt (decimals hs S) (length hs) (remainder hs S) c → cutOffIn hs S ≡ some c
-known hs S c pos few short within = cut-off-only (decimals hs S) (length hs) (remainder hs S) (decimals-lt hs S pos few short within) (remainder-le hs S pos few short within) c
+known : (hs : List ℕ) (S c : ℕ)
+    → (0 < total hs) × (total hs ≤ MOST_CONTRACTS) × (length hs ≤ MOST_POSITIONS) × (S ≤ total hs) × (larger (decimals hs S) c (length hs) < remainder hs S) × (remainder hs S ≤ atLeast (decimals hs S) c (length hs))
+    → cutOffIn hs S ≡ some c
+known hs S c (some-held, few, short, within, fewer, enough) =
+    cut-off-only (decimals hs S) (length hs) (remainder hs S) (decimals-lt hs S some-held few short within) (remainder-le hs S some-held few short within) c (record { fewer = fewer; enough = enough })
 
+-- The cut-offs of the starred series F, G, H, J and K, and of one where nothing remains.
 pub starred-cut-offs : (cutOffIn (5 ∷ 3 ∷ 2 ∷ []) 4 ≡ some 80000) × (cutOffIn (3 ∷ []) 1 ≡ some 99999) × (cutOffIn (1 ∷ 1 ∷ 1 ∷ []) 1 ≡ some 33333) × (cutOffIn (1 ∷ 1 ∷ 1 ∷ []) 2 ≡ some 66666) × (cutOffIn (3 ∷ 1 ∷ 2 ∷ []) 2 ≡ some 66666) × (cutOffIn (2 ∷ 2 ∷ []) 2 ≡ none)
 unfolding sumBelow bit countBelow total percentage assignmentAmount wholePart decimalPart roundOne decimals remainder larger atLeast
 starred-cut-offs = (
-  known (5 ∷ 3 ∷ 2 ∷ []) 4 80000 (omega arith) (omega arith) (omega arith) (omega arith) (record { fewer = omega arith; enough = omega arith }),
-  known (3 ∷ []) 1 99999 (omega arith) (omega arith) (omega arith) (omega arith) (record { fewer = omega arith; enough = omega arith }),
-  known (1 ∷ 1 ∷ 1 ∷ []) 1 33333 (omega arith) (omega arith) (omega arith) (omega arith) (record { fewer = omega arith; enough = omega arith }),
-  known (1 ∷ 1 ∷ 1 ∷ []) 2 66666 (omega arith) (omega arith) (omega arith) (omega arith) (record { fewer = omega arith; enough = omega arith }),
-  known (3 ∷ 1 ∷ 2 ∷ []) 2 66666 (omega arith) (omega arith) (omega arith) (omega arith) (record { fewer = omega arith; enough = omega arith }),
+  known (5 ∷ 3 ∷ 2 ∷ []) 4 80000 (omega arith),
+  known (3 ∷ []) 1 99999 (omega arith),
+  known (1 ∷ 1 ∷ 1 ∷ []) 1 33333 (omega arith),
+  known (1 ∷ 1 ∷ 1 ∷ []) 2 66666 (omega arith),
+  known (3 ∷ 1 ∷ 2 ∷ []) 2 66666 (omega arith),
   no-cut-off (decimals (2 ∷ 2 ∷ []) 2) 2 (remainder (2 ∷ 2 ∷ []) 2) refl,
 )

@@ -155,10 +155,10 @@ ltb-shift a t l =
 
 -- what is left runs out at c
 module _ (d : ℕ → ℕ) (n draw left c : ℕ) (at : RunsOutAt d n left c) where
-  pub above-served : (i : ℕ) → i < n → c < d i → roundTwo d n draw left i ≡ 1
+  above-served : (i : ℕ) → i < n → c < d i → roundTwo d n draw left i ≡ 1
   above-served i h l = served d n draw left i h (omega (arith, atLeast-parts d (d i) n, larger-next d c n, atLeast-falls d (suc c) (d i) n l))
 
-  pub below-unserved : (i : ℕ) → d i < c → roundTwo d n draw left i ≡ 0
+  below-unserved : (i : ℕ) → d i < c → roundTwo d n draw left i ≡ 0
   below-unserved i l = unserved d n draw left i (omega (arith, larger-next d (d i) n, atLeast-falls d (suc (d i)) c n l))
 
   -- of the tied positions those are served whose turn is among the first m, where m can be served
@@ -167,7 +167,7 @@ module _ (d : ℕ → ℕ) (n draw left c : ℕ) (at : RunsOutAt d n left c) whe
   tied-served i e = rw e (ap bit (ltb-shift (larger d c n) (turn draw (equal d c n) (equal d c i)) left))
 
   -- one contract to a position above the cut-off, by turn to one at it, none below
-  pub by-cut : (i : ℕ) → i < n → roundTwo d n draw left i ≡ byCutOff d c draw (equal d c n) (left - larger d c n) i
+  by-cut : (i : ℕ) → i < n → roundTwo d n draw left i ≡ byCutOff d c draw (equal d c n) (left - larger d c n) i
   unfolding bit atCutOff
   by-cut i h =
       elim (decLt c (d i)) [
@@ -212,7 +212,7 @@ first-below d n left (suc b) h l =
     ]
 
 -- what is left runs out at one decimal part only
-pub runs-out-once : (d : ℕ → ℕ) (n left c c2 : ℕ) → RunsOutAt d n left c → RunsOutAt d n left c2 → c ≡ c2
+runs-out-once : (d : ℕ → ℕ) (n left c c2 : ℕ) → RunsOutAt d n left c → RunsOutAt d n left c2 → c ≡ c2
 runs-out-once d n left c c2 at at2 =
     elim (decLt c c2) [
       | yes l ↦ absurd (omega (arith, larger-next d c n, atLeast-falls d (suc c) c2 n l))
@@ -231,7 +231,7 @@ no-cut-off d n left e = rw (eq-eqb left 0 e) refl
 -- the decimal parts of n positions, and what is left for them, one contract to a position
 module _ (d : ℕ → ℕ) (n left : ℕ) (five : (i : ℕ) → i < n → d i < 100000) (most : left ≤ n) where
   -- where something is left there is a cut-off
-  pub cut-off : 0 < left → (c : ℕ) × (cutOff d n left ≡ some c) × RunsOutAt d n left c
+  cut-off : 0 < left → (c : ℕ) × (cutOff d n left ≡ some c) × RunsOutAt d n left c
   unfolding cutOff
   cut-off some-left =
       rw (ne-eqb left 0 (λ e. omega arith)) (first-below d n left 100000 (omega (arith, atLeast-all d n)) (omega (arith, atLeast-none d 100000 n five)))

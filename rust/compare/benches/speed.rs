@@ -119,10 +119,20 @@ fn allocation(row: Row) {
             b'P' => (plain::allocate_pro_rata_by_bisection, Some(by_method::<b'P'>)),
             _ => (by_method::<b'L'>, None),
         };
-        let [library, same] = medians([&mut call_library, &mut || call_plain(same, theirs)]);
-        let other = other.map_or("-".to_string(), |other| time(median(|| call_plain(other, others))));
+        let mut call_same = || call_plain(same, theirs);
+        let (library, same, best) = match other {
+            Some(other) => {
+                let mut call_other = || call_plain(other, others);
+                let [library, same, best] = medians([&mut call_library, &mut call_same, &mut call_other]);
+                (library, same, Some(best))
+            }
+            None => {
+                let [library, same] = medians([&mut call_library, &mut call_same]);
+                (library, same, None)
+            }
+        };
         println!(
-            "{:<7}{:>10}{:>11}{:>11}{:>9}{:>12}{:>12}{:>12}{:>12}{:>12.4}{:>12.2}",
+            "{:<7}{:>10}{:>11}{:>11}{:>9}{:>12}{:>12}{:>12}{:>12}{:>12.4}{:>12.2}{:>12}",
             char::from(method),
             row.positions,
             row.total,
@@ -130,10 +140,11 @@ fn allocation(row: Row) {
             if cleared { "yes" } else { "no" },
             time(library),
             time(step),
-            other,
+            best.map_or("-".to_string(), time),
             time(same),
             library / step,
-            library / same
+            library / same,
+            best.map_or("-".to_string(), |best| format!("{:.2}", library / best))
         );
     }
 }
@@ -142,15 +153,18 @@ fn allocations() {
     println!(
         "Allocating: one call. 'stepping' is one contract at a time; 'plain' is the library's algorithm in plain Rust"
     );
+    println!("(blocks and positions, bisection, positions); 'best plain' is another one, where we know one that is");
+    println!("faster at many sizes: W with a division for each position, P with a rank by selection or histograms. A");
+    println!("column 'to' has the library's time divided by theirs.");
     println!(
-        "(blocks and positions, bisection, positions); 'best plain' is another one, where we know a faster: W with a"
+        "P has two S at each size: with 3/7 of T the decimal parts of many positions gather about the sevenths, with"
     );
-    println!("division for each position, P with a rank by selection or histograms.");
+    println!("3123/7919 they are spread as far as the shorts differ. Of one position nothing remains for round two.");
     println!(
         "Cleared: the output was filled with 0 before each call, within the time; else it holds the last amounts."
     );
     println!(
-        "{:<7}{:>10}{:>11}{:>11}{:>9}{:>12}{:>12}{:>12}{:>12}{:>12}{:>12}",
+        "{:<7}{:>10}{:>11}{:>11}{:>9}{:>12}{:>12}{:>12}{:>12}{:>12}{:>12}{:>12}",
         "method",
         "positions",
         "T",
@@ -161,15 +175,20 @@ fn allocations() {
         "best plain",
         "plain",
         "to stepping",
-        "to plain"
+        "to plain",
+        "to best"
     );
     for method in make::METHODS {
-        for positions in [10, 100, 1_024, 4_096] {
+        let sizes: &[usize] = if method == b'P' { &[1, 10, 30, 100, 1_024, 4_096] } else { &[10, 100, 1_024, 4_096] };
+        for &positions in sizes {
             for total in [10_000, 10_000_000u64] {
                 let mut exercised = vec![(total * 3 / 7) as u32];
                 if method == b'W' {
                     exercised.push((total - 1) as u32);
                     exercised.push((total / 100) as u32);
+                }
+                if method == b'P' {
+                    exercised.push((total * 3_123 / 7_919) as u32);
                 }
                 for exercised in exercised {
                     allocation(Row { method, positions, total, exercised });

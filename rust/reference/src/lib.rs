@@ -182,14 +182,27 @@ fn wheel(shorts: &[u32], total: u32, exercised: u32, draw: u32) -> (Vec<u32>, u3
     (amounts, blocks)
 }
 
-fn pro_rata(shorts: &[u32], total: u32, exercised: u32, draw: u32) -> (Vec<u32>, u32) {
+/// Round one: the whole part of each assignment amount, its decimal part in hundred-thousandths, what remains of S.
+fn round_one(shorts: &[u32], total: u32, exercised: u32) -> (Vec<u32>, Vec<u32>, usize) {
     let percentage = u128::from(exercised) * 10u128.pow(17) / u128::from(total);
-    // In hundred-thousandths of a contract.
     let exact: Vec<u128> = shorts.iter().map(|&s| u128::from(s) * percentage / 10u128.pow(12)).collect();
-    let mut amounts: Vec<u32> = exact.iter().map(|a| (a / 100_000) as u32).collect();
+    let amounts: Vec<u32> = exact.iter().map(|a| (a / 100_000) as u32).collect();
     let decimals: Vec<u32> = exact.iter().map(|a| (a % 100_000) as u32).collect();
     let remaining = exercised as usize - amounts.iter().map(|&a| a as usize).sum::<usize>();
     assert!(remaining <= shorts.len(), "round two has {remaining} contracts for {} positions", shorts.len());
+    (amounts, decimals, remaining)
+}
+
+/// The decimal part, in hundred-thousandths, at which what remains of S after round one runs out: from the largest to
+/// the smallest, the last one that is served. None where nothing remains.
+pub fn cut_off(shorts: &[u32], exercised: u32) -> Option<u32> {
+    let (_, mut decimals, remaining) = round_one(shorts, shorts.iter().sum(), exercised);
+    decimals.sort_by_key(|&decimal| Reverse(decimal));
+    (remaining > 0).then(|| decimals[remaining - 1])
+}
+
+fn pro_rata(shorts: &[u32], total: u32, exercised: u32, draw: u32) -> (Vec<u32>, u32) {
+    let (mut amounts, decimals, remaining) = round_one(shorts, total, exercised);
     if remaining > 0 {
         let mut ranked: Vec<usize> = (0..shorts.len()).collect();
         ranked.sort_by_key(|&p| Reverse(decimals[p]));

@@ -103,6 +103,27 @@ fn facts_at_the_edges() {
 }
 
 #[test]
+fn cut_offs_of_round_two() {
+    let found = KNOWN.iter().filter(|series| series.0 == b'P').map(|series| cut_off(series.1, series.2));
+    assert_eq!(found.collect::<Vec<_>>(), [80_000, 99_999, 33_333, 66_666, 66_666].map(Some));
+    // Nothing remains.
+    assert_eq!(cut_off(&[2, 2], 2), None);
+    assert_eq!(cut_off(&SHORTS, 36), None);
+    assert_eq!(cut_off(&[10_000_000], 9_999_999), None);
+    // A third of each: the largest decimal part, the second of three, one that all three share.
+    assert_eq!(cut_off(&[25, 5], 10), Some(66_666));
+    assert_eq!(cut_off(&[4, 5, 21], 10), Some(66_666));
+    assert_eq!(cut_off(&[4, 4, 22], 10), Some(33_333));
+    // Dropped decimals: a whole share of 2 is 1.99999, and a 17th decimal counts where an 18th does not.
+    assert_eq!(cut_off(&[6, 6], 4), Some(99_999));
+    assert_eq!(cut_off(&[1 << 17, 1 << 17], 2), None);
+    assert_eq!(cut_off(&[1 << 18, 1 << 18], 2), Some(99_999));
+    // 4,096 that share it.
+    assert_eq!(cut_off(&[1; 4_096], 1), Some(24));
+    assert_eq!(cut_off(&[1; 4_096], 4_095), Some(99_975));
+}
+
+#[test]
 fn a_whole_series_needs_no_draw() {
     for method in [b'W', b'P', b'L'] {
         for draw in DRAWS {

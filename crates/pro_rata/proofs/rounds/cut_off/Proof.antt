@@ -56,8 +56,8 @@ loop-less-2 c = omega arith
 loop-again-2 : tie.Need-loop-again-2 Inv-loop μ-loop
 loop-again-2 c = omega (arith, c .before .at-least .ensures)
 
-sub-t14 : tie.Need-sub-t14 Inv-loop μ-loop
-sub-t14 c = omega arith
+sub-tied : tie.Need-sub-tied Inv-loop μ-loop
+sub-tied c = omega arith
 
 returns-2 : tie.Need-returns-2 Inv-loop μ-loop
 returns-2 c = let loop = c .before .loop in
@@ -81,5 +81,5 @@ cut-off-spec =
     loop-again
     loop-less-2
     loop-again-2
-    sub-t14
+    sub-tied
     returns-2)

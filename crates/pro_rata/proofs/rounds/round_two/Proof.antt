@@ -8,7 +8,7 @@ use Rattle.series.specs.ProRata.{roundTwo}
 use Rattle.series.proofs.ProRataLaws.{unserved, equal-le}
 use Rattle.pro_rata.specs.Rounds.{at, cutOffOf}
 use Rattle.series.proofs.ListLaws.{listed-elements}
-use Rattle.pro_rata.proofs.RoundTwoLaws.{CutOffAt, is-cut-off, is-none, tied-some, serves, service}
+use Rattle.pro_rata.proofs.RoundTwoLaws.{CutOffAt, is-cut-off, is-none, larger-lt, tied-some, serves, service}
 use borrow.Author.Needs.{needs}
 use Rattle.pro_rata.proofs.rounds.round_two.Statement.{statement}
 use Rattle.pro_rata.proofs.rounds.round_two.Tie as tie
@@ -36,10 +36,12 @@ returns c = let start = c .before .before .before .before .before in
     (λ i h. omega (arith, unserved (at parts) (length parts) (start .args .draw) left i (omega arith)))
 
 rem-t10 : tie.Need-rem-t10
-rem-t10 c = tied-some _ _ _ _ _ _ (at-cut (c .before))
+rem-t10 c = let start = c .before .before .before .before .before .before in
+    tied-some _ _ _ (start .pre .0 .five) (start .pre .0 .most) _ _ _ (at-cut (c .before))
 
 sub-t11 : tie.Need-sub-t11
-sub-t11 c = let promise = at-cut (c .before .before) in omega (arith, promise .runs-out .fewer, promise .larger-are)
+sub-t11 c = let start = c .before .before .before .before .before .before .before in
+    omega (arith, larger-lt _ _ _ (start .pre .0 .five) (start .pre .0 .most) _ _ _ (at-cut (c .before .before)))
 
 serve-requires : tie.Need-serve-requires
 serve-requires c κs = let start = c .before .before .before .before .before .before .before .before in
@@ -49,8 +51,8 @@ serve-requires c κs = let start = c .before .before .before .before .before .be
       room = start .pre .1;
       serving = record {
         few = omega (arith, promise .tied-are, equal-le (at parts) (c .before .before .before .cut .given .0 .0) (length parts), start .pre .0 .few);
-        begins = mod-lt _ (tied-some _ _ _ _ _ _ promise);
-        serves = serves _ _ _ _ _ _ promise;
+        begins = mod-lt _ (tied-some _ _ _ (start .pre .0 .five) (start .pre .0 .most) _ _ _ promise);
+        serves = serves _ _ _ (start .pre .0 .five) (start .pre .0 .most) _ _ _ promise;
       };
       tied = promise .tied-are;
     }
@@ -61,7 +63,7 @@ same-length c = search needs
 returns-2 : tie.Need-returns-2
 returns-2 c = let start = c .before .before .before .before .before .before .before .before .before .before .before in
     c .before .before .serve .ensures
-    ∙ service _ _ _ _ _ _ (at-cut (c .before .before .before .before .before .before)) (start .args .draw) (start .args .amounts .now) (start .pre .1 .beside)
+    ∙ service _ _ _ (start .pre .0 .five) (start .pre .0 .most) _ _ _ (at-cut (c .before .before .before .before .before .before)) (start .args .draw) (start .args .amounts .now) (start .pre .1 .beside)
 
 pub round-two-spec : {M : Type 1} → statement M
 round-two-spec =
