@@ -1,4 +1,4 @@
--- Laws of pro rata: round two hands out exactly the remainder, no amount exceeds the shorts, and each is less than one contract from its share.
+-- Laws of pro rata: round two by rank is round two by the cut-off and hands out exactly the remainder, no amount exceeds the shorts, and each is less than one contract from its share.
 use Prim.Native.Nat.{ℕ, zero, suc, _+_, _-_, _*_, _/_, _%_, _^_, _≤_, _<_}
 use mathlib.Core.Path.{_≡_, refl, sym, ap, _∙_}
 use mathlib.Core.Bool.{cond}
@@ -212,16 +212,15 @@ first-below d n left (suc b) h l =
     ]
 
 -- what is left runs out at one decimal part only
-runs-out-once : (d : ℕ → ℕ) (n left c c2 : ℕ) → RunsOutAt d n left c → RunsOutAt d n left c2 → c ≡ c2
-runs-out-once d n left c c2 at at2 =
+not-above : (d : ℕ → ℕ) (n left c c2 : ℕ) → RunsOutAt d n left c → RunsOutAt d n left c2 → c2 ≤ c
+not-above d n left c c2 at at2 =
     elim (decLt c c2) [
       | yes l ↦ absurd (omega (arith, larger-next d c n, atLeast-falls d (suc c) c2 n l))
-      | no g ↦
-          elim (decLt c2 c) [
-            | yes l ↦ absurd (omega (arith, larger-next d c2 n, atLeast-falls d (suc c2) c n l))
-            | no g′ ↦ omega arith
-          ]
+      | no g ↦ omega arith
     ]
+
+runs-out-once : (d : ℕ → ℕ) (n left c c2 : ℕ) → RunsOutAt d n left c → RunsOutAt d n left c2 → c ≡ c2
+runs-out-once d n left c c2 at at2 = omega (arith, not-above d n left c c2 at at2, not-above d n left c2 c at2 at)
 
 -- none is found where nothing is left
 pub no-cut-off : (d : ℕ → ℕ) (n left : ℕ) → left ≡ 0 → cutOff d n left ≡ none
@@ -278,11 +277,6 @@ module _ (d : ℕ → ℕ) (n left : ℕ) (five : (i : ℕ) → i < n → d i < 
 residue : ℕ → ℕ → ℕ → ℕ
 residue T S h = h * S - T * wholePart (percentage S T) h
 
--- a decimal part has five digits
-pub decimal-part-lt : (q h : ℕ) → decimalPart q h < 100000
-unfolding decimalPart
-decimal-part-lt q h = omega arith
-
 -- the two truncations
 module _ (T S h : ℕ) (pos : 0 < T) (few : T ≤ MOST_CONTRACTS) (part : h ≤ T) where
   abbrev w : ℕ
@@ -291,8 +285,9 @@ module _ (T S h : ℕ) (pos : 0 < T) (few : T ≤ MOST_CONTRACTS) (part : h ≤ 
   abbrev x : ℕ
   x = decimalPart (percentage S T) h
 
-  decimal-lt : x < 100000
-  decimal-lt = decimal-part-lt (percentage S T) h
+  pub decimal-lt : x < 100000
+  unfolding decimalPart
+  decimal-lt = omega arith
 
   amount-parts : assignmentAmount (percentage S T) h ≡ 100000 * w + x
   unfolding wholePart decimalPart
