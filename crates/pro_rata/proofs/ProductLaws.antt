@@ -1,4 +1,4 @@
--- A product that passes 64 bits, divided in two steps.
+-- A product that passes 64 bits, divided in two parts.
 use Prim.Native.Nat.{ℕ, _+_, _*_, _/_, _%_, _≤_, _<_}
 use mathlib.Core.Path.{_≡_, sym, ap, _∙_}
 use native.Mathlib.Omega.{arith}

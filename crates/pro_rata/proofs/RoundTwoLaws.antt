@@ -1,20 +1,19 @@
 -- The cut-off that the search finds, and that round two by it serves the positions that the rules serve.
 use Prim.Native.Nat.{ℕ, _+_, _-_, _*_, _%_, _≤_, _<_}
 use mathlib.Core.Path.{_≡_, refl, sym, ap, ap₂, _∙_}
-use mathlib.Core.Option.{Option, none, some, Option·map, Option·some-injective}
+use mathlib.Core.Option.{Option, none, some, Option·some-injective}
 use mathlib.Core.List.{List}
 use native.Mathlib.Omega.{arith}
 use native.Mathlib.Nat.{mod-eq-of-lt, mod-mod}
 use native.Mathlib.Numerals.{add-one}
 use native.Mathlib.Decide.{decLt, ℕ-discrete}
-use borrow.Author.Tests.{lt-ltb, le-ltb, eq-eqb, ne-eqb}
 use lib.Dec.{eqb, ltb}
 use lib.ListN.{length}
 use Rattle.series.specs.Sums.{bit}
 use Rattle.series.specs.ProRata.{turn, larger, equal, roundTwo}
 use Rattle.series.specs.CutOff.{atLeast, cutOff, RunsOutAt, atCutOff, byCutOff, roundTwoAt, roundTwoByCutOff}
 use Rattle.series.proofs.SumLaws.{bit-le, listed-cong}
-use Rattle.series.proofs.ProRataLaws.{turn-first, turn-after, atLeast-parts, larger-next, no-cut-off, cut-off-is, cut-off-only, none-left, round-two-by-cut-off}
+use Rattle.series.proofs.ProRataLaws.{turn-first, turn-after, above, tied, below, atLeast-parts, larger-next, no-cut-off, cut-off-is, cut-off-only, none-left, round-two-by-cut-off}
 use Rattle.pro_rata.specs.Rounds.{at, added, counted, cutOffOf}
 use Rattle.pro_rata.specs.declared.rounds.Cutoff.the-variants.{At, Nothing}
 
@@ -27,29 +26,17 @@ pub turn-high : (first g k : ℕ) → k < g → first ≤ k → turn first g k �
 turn-high first g k h l =
     let e : first % g ≡ first = mod-eq-of-lt (omega arith) in turn-first first g k (omega arith) h ∙ ap (k -_) e
 
-module _ (c first g m x k : ℕ) where
-  pub above : c < x → atCutOff c first g m x k ≡ 1
-  unfolding atCutOff bit
-  above l = rw (lt-ltb c x l, ne-eqb x c (omega arith)) (omega arith)
-
-  pub tied : x ≡ c → atCutOff c first g m x k ≡ bit (ltb (turn first g k) m)
-  unfolding atCutOff bit
-  tied e = rw (le-ltb c x (omega arith), eq-eqb x c e) (omega arith)
-
-  pub below : x < c → atCutOff c first g m x k ≡ 0
-  unfolding atCutOff bit
-  below l = rw (le-ltb c x (omega arith), ne-eqb x c (omega arith)) (omega arith)
-
-  pub one-most : atCutOff c first g m x k ≤ 1
-  one-most =
-      elim (decLt c x) [
-        | yes l ↦ omega (arith, above l)
-        | no n ↦
-            elim (ℕ-discrete x c) [
-              | yes e ↦ omega (arith, tied e, bit-le (ltb (turn first g k) m))
-              | no n′ ↦ omega (arith, below (omega arith))
-            ]
-      ]
+-- at most one contract by the cut-off
+pub one-most : (c first g m x k : ℕ) → atCutOff c first g m x k ≤ 1
+one-most c first g m x k =
+    elim (decLt c x) [
+      | yes l ↦ omega (arith, above c first g m x k l)
+      | no n ↦
+          elim (ℕ-discrete x c) [
+            | yes e ↦ omega (arith, tied c first g m x k e, bit-le (ltb (turn first g k) m))
+            | no n′ ↦ omega (arith, below c first g m x k (omega arith))
+          ]
+    ]
 
 -- only the draw modulo g counts
 turn-mod : (draw g k : ℕ) → turn (draw % g) g k ≡ turn draw g k
@@ -62,6 +49,9 @@ pub record CutOffAt (d : ℕ → ℕ) (n left c l g : ℕ) : Type 0 where
   pub larger-are : l ≡ larger d c n
   pub tied-are : g ≡ equal d c n
 
+pub none-found : (d : ℕ → ℕ) (n left : ℕ) → left ≡ 0 → cutOffOf Nothing ≡ counted d n (cutOff d n left)
+none-found d n left e = rw (no-cut-off d n left e) refl
+
 module _ (d : ℕ → ℕ) (n left : ℕ) (five : (i : ℕ) → i < n → d i < 100000) (most : left ≤ n) where
   -- where at least as many positions as are left have c or more, and fewer c + 1 or more, that is the cut-off with its counts
   pub found : (c next enough l : ℕ) → next ≡ c + 1 → enough ≡ atLeast d c n → l ≡ atLeast d next n → left ≤ enough → l < left → cutOffOf (At c l (enough - l)) ≡ counted d n (cutOff d n left)
@@ -69,9 +59,6 @@ module _ (d : ℕ → ℕ) (n left : ℕ) (five : (i : ℕ) → i < n → d i < 
       let above : l ≡ larger d c n = l-are ∙ ap (λ x. atLeast d x n) (one ∙ add-one c) ∙ sym (larger-next d c n) in
       let share : enough - l ≡ equal d c n = omega (arith, atLeast-parts d c n) in
       rw (cut-off-only d n left five most c (record { fewer = omega arith; enough = omega arith }), share, above)
-
-  pub none-found : left ≡ 0 → cutOffOf Nothing ≡ counted d n (cutOff d n left)
-  none-found e = rw (no-cut-off d n left e) refl
 
   -- and the other way round
   pub is-cut-off : (c l g : ℕ) → cutOffOf (At c l g) ≡ counted d n (cutOff d n left) → CutOffAt d n left c l g

@@ -24,6 +24,7 @@ pub record Facts (s : Series) : Type 0 where
   pub lengths : length (s .accounts) ≡ length (s .shorts)
   pub few : length (s .shorts) ≤ MOST_POSITIONS
   pub some : 0 < length (s .shorts)
+  pub total-some : 0 < held s
   pub total-most : held s ≤ MOST_CONTRACTS
   pub exercised-some : 0 < exercised s
   pub exercised-most : exercised s ≤ held s
@@ -90,13 +91,16 @@ accepted-facts s room ok =
     let left = subst NoneApplies (aside-rows s room) ok in
     let list = passed-append (positionRows 0 0 (s .accounts) (s .shorts)) (exercisedRows (held s) (exercised s)) (left .1 .1 .1) in
     let same : length (s .accounts) ≡ length (s .shorts) = eqb-true _ _ (not-false _ (left .0)) in
+    let some-exercised : 0 < exercised s = positive (eqb-false _ _ (list .1 .0)) in
+    let most-exercised : exercised s ≤ held s = ltb-false _ _ (list .1 .1 .0) in
     record {
       lengths = same;
       few = ltb-false _ _ (left .1 .0);
       some = positive (eqb-false _ _ (left .1 .1 .0));
+      total-some = omega arith;
       total-most = omega (arith, positions-total 0 0 (s .accounts) (s .shorts) same (omega arith) (list .0));
-      exercised-some = positive (eqb-false _ _ (list .1 .0));
-      exercised-most = ltb-false _ _ (list .1 .1 .0);
+      exercised-some = some-exercised;
+      exercised-most = most-exercised;
     }
 
 aside-passed : (xs : List Row) → NoneApplies xs → NoneApplies (aside xs)

@@ -1,6 +1,6 @@
 -- Cut-off first, proved of the definitions for every accepted series s: what the decimal part is at which the remainder runs out, and that round two goes by it.
 use Prim.Native.Nat.{ℕ, _+_, _≤_, _<_}
-use mathlib.Core.Path.{_≡_, refl, ap, _∙_}
+use mathlib.Core.Path.{_≡_, refl, ap}
 use mathlib.Core.Option.{Option, none, some}
 use mathlib.Core.List.{List, [], _∷_}
 use native.Mathlib.Omega.{arith}
@@ -8,9 +8,9 @@ use native.Mathlib.Decide.{ℕ-discrete}
 use lib.ListN.{length}
 use Rattle.series.specs.Sums.{sumBelow, bit, countBelow, listed}
 use Rattle.series.specs.Places.{total}
-use Rattle.series.specs.Series.{Series, exercised, held, MOST_POSITIONS, MOST_CONTRACTS}
+use Rattle.series.specs.Series.{Series, exercised, MOST_POSITIONS, MOST_CONTRACTS}
 use Rattle.series.specs.ProRata.{percentage, assignmentAmount, wholePart, decimalPart, roundOne, decimals, remainder, larger, equal, Tie, roundTwo, proRata}
-use Rattle.series.specs.CutOff.{atLeast, cutOff, RunsOutAt, roundTwoByCutOff}
+use Rattle.series.specs.CutOff.{atLeast, cutOff, cutOffIn, RunsOutAt, roundTwoByCutOff}
 use Rattle.series.specs.Refusals.{Accepted}
 use Rattle.series.proofs.SumLaws.{listed-cong}
 use Rattle.series.proofs.AcceptedLaws.{Facts, accepted-facts}
@@ -26,21 +26,19 @@ n s = length (s .shorts)
 abbrev left : Series → ℕ
 left s = remainder (s .shorts) (exercised s)
 
+-- and its cut-off
 abbrev cut : Series → Option ℕ
-cut s = cutOff (d s) (n s) (left s)
+cut s = cutOffIn (s .shorts) (exercised s)
 
 module _ (s : Series) (room : ℕ) (ok : Accepted s room) where
   facts : Facts s
   facts = accepted-facts s room ok
 
-  some-total : 0 < held s
-  some-total = omega (arith, facts .exercised-some, facts .exercised-most)
-
   five : (i : ℕ) → i < n s → d s i < 100000
-  five = decimals-lt (s .shorts) (exercised s) some-total (facts .total-most) (facts .few) (facts .exercised-most)
+  five = decimals-lt (s .shorts) (exercised s) (facts .total-some) (facts .total-most) (facts .few) (facts .exercised-most)
 
   most : left s ≤ n s
-  most = remainder-le (s .shorts) (exercised s) some-total (facts .total-most) (facts .few) (facts .exercised-most)
+  most = remainder-le (s .shorts) (exercised s) (facts .total-some) (facts .total-most) (facts .few) (facts .exercised-most)
 
   -- Fewer positions than remaining contracts have a larger decimal part.
   pub fewer-have-larger : (c : ℕ) → cut s ≡ some c → larger (d s) c (n s) < left s
@@ -69,7 +67,7 @@ module _ (s : Series) (room : ℕ) (ok : Accepted s room) where
   pub cut-off-above-0 : (c : ℕ) → cut s ≡ some c → 0 < c
   cut-off-above-0 c e =
       elim (ℕ-discrete c 0) [
-        | yes z ↦ absurd (omega (arith, fewer-have-larger c e, ap (λ x. larger (d s) x (n s)) z, remainder-above (s .shorts) (exercised s) some-total (facts .total-most) (facts .few) (facts .exercised-most)))
+        | yes z ↦ absurd (omega (arith, fewer-have-larger c e, ap (λ x. larger (d s) x (n s)) z, remainder-above (s .shorts) (exercised s) (facts .total-some) (facts .total-most) (facts .few) (facts .exercised-most)))
         | no g ↦ omega arith
       ]
 
@@ -85,10 +83,6 @@ module _ (s : Series) (room : ℕ) (ok : Accepted s room) where
   pub amounts-by-cut-off : (draw : ℕ) → proRata (s .shorts) (exercised s) draw ≡ listed (λ i. roundOne (s .shorts) (exercised s) i + roundTwoByCutOff (d s) (n s) draw (left s) i) (n s)
   unfolding proRata
   amounts-by-cut-off draw = listed-cong _ _ (n s) (λ i h. ap (roundOne (s .shorts) (exercised s) i +_) (by-rank-by-cut-off draw i h))
-
--- the cut-off of a list with S exercised
-abbrev cutOffIn : List ℕ → ℕ → Option ℕ
-cutOffIn hs S = cutOff (decimals hs S) (length hs) (remainder hs S)
 
 known : (hs : List ℕ) (S c : ℕ)
     → (0 < total hs) × (total hs ≤ MOST_CONTRACTS) × (length hs ≤ MOST_POSITIONS) × (S ≤ total hs) × (larger (decimals hs S) c (length hs) < remainder hs S) × (remainder hs S ≤ atLeast (decimals hs S) c (length hs))

@@ -33,7 +33,7 @@ module _ (s : Series) (room : ℕ) (ok : Accepted s room) where
   facts = accepted-facts s room ok
 
   some-total : 0 < held s
-  some-total = omega (arith, facts .exercised-some, facts .exercised-most)
+  some-total = facts .total-some
 
   few-blocks : blocks INCREMENT (exercised s) ≤ ONE
   unfolding blocks

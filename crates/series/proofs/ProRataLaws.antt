@@ -1,7 +1,6 @@
 -- Laws of pro rata: round two by rank is round two by the cut-off and hands out exactly the remainder, no amount exceeds the shorts, and each is less than one contract from its share.
 use Prim.Native.Nat.{ℕ, zero, suc, _+_, _-_, _*_, _/_, _%_, _^_, _≤_, _<_}
 use mathlib.Core.Path.{_≡_, refl, sym, ap, _∙_}
-use mathlib.Core.Bool.{cond}
 use mathlib.Core.Option.{none, some}
 use mathlib.Core.List.{List}
 use native.Mathlib.Omega.{arith}
@@ -153,6 +152,20 @@ ltb-shift a t l =
       | no g ↦ le-ltb (a + t) l (omega arith) ∙ sym (le-ltb t (l - a) (omega arith))
     ]
 
+-- by the cut-off c a position above it gets one contract, one at it by turn, one below it none
+module _ (c draw g m x k : ℕ) where
+  pub above : c < x → atCutOff c draw g m x k ≡ 1
+  unfolding atCutOff bit
+  above l = rw (lt-ltb c x l, ne-eqb x c (omega arith)) (omega arith)
+
+  pub tied : x ≡ c → atCutOff c draw g m x k ≡ bit (ltb (turn draw g k) m)
+  unfolding atCutOff bit
+  tied e = rw (le-ltb c x (omega arith), eq-eqb x c e) (omega arith)
+
+  pub below : x < c → atCutOff c draw g m x k ≡ 0
+  unfolding atCutOff bit
+  below l = rw (le-ltb c x (omega arith), ne-eqb x c (omega arith)) (omega arith)
+
 -- what is left runs out at c
 module _ (d : ℕ → ℕ) (n draw left c : ℕ) (at : RunsOutAt d n left c) where
   above-served : (i : ℕ) → i < n → c < d i → roundTwo d n draw left i ≡ 1
@@ -166,16 +179,15 @@ module _ (d : ℕ → ℕ) (n draw left c : ℕ) (at : RunsOutAt d n left c) whe
   unfolding roundTwo rank
   tied-served i e = rw e (ap bit (ltb-shift (larger d c n) (turn draw (equal d c n) (equal d c i)) left))
 
-  -- one contract to a position above the cut-off, by turn to one at it, none below
+  -- so the service by rank is that by the cut-off
   by-cut : (i : ℕ) → i < n → roundTwo d n draw left i ≡ byCutOff d c draw (equal d c n) (left - larger d c n) i
-  unfolding bit atCutOff
   by-cut i h =
       elim (decLt c (d i)) [
-        | yes l ↦ above-served i h l ∙ rw (lt-ltb c (d i) l, ne-eqb (d i) c (omega arith)) (omega arith)
+        | yes l ↦ above-served i h l ∙ sym (above c draw (equal d c n) (left - larger d c n) (d i) (equal d c i) l)
         | no g ↦
             elim (ℕ-discrete (d i) c) [
-              | yes e ↦ tied-served i e ∙ rw (le-ltb c (d i) (omega arith), eq-eqb (d i) c e) (omega arith)
-              | no g′ ↦ below-unserved i (omega arith) ∙ rw (le-ltb c (d i) (omega arith), ne-eqb (d i) c g′) (omega arith)
+              | yes e ↦ tied-served i e ∙ sym (tied c draw (equal d c n) (left - larger d c n) (d i) (equal d c i) e)
+              | no g′ ↦ below-unserved i (omega arith) ∙ sym (below c draw (equal d c n) (left - larger d c n) (d i) (equal d c i) (omega arith))
             ]
       ]
 
@@ -195,7 +207,7 @@ module _ (d : ℕ → ℕ) (n draw left c : ℕ) (at : RunsOutAt d n left c) whe
         count-first m g (omega (arith, atLeast-parts d c n)),
       )
 
--- a count that falls from `left` or more to less passes it once
+-- where a count falls from `left` or more to less, `firstBelow` finds where, and what is left runs out there
 first-below : (d : ℕ → ℕ) (n left b : ℕ) → left ≤ atLeast d 0 n → atLeast d b n < left → (c : ℕ) × (firstBelow d n left b ≡ some c) × RunsOutAt d n left c
 unfolding firstBelow
 first-below d n left zero h l = absurd (omega arith)

@@ -2,22 +2,28 @@
 use Prim.Native.Nat.{ℕ, zero, suc, _+_, _-_, _*_, _^_, _≤_, _<_}
 use mathlib.Core.Bool.{cond}
 use mathlib.Core.Option.{Option, none, some}
+use mathlib.Core.List.{List}
 use lib.Dec.{eqb, ltb, leb}
+use lib.ListN.{length}
 use Rattle.series.specs.Sums.{bit, countBelow}
-use Rattle.series.specs.ProRata.{larger, equal, turn}
+use Rattle.series.specs.ProRata.{decimals, remainder, larger, equal, turn}
 
 -- how many of the first n positions have a decimal part as large as x or larger
 unfoldable pub atLeast : (ℕ → ℕ) → ℕ → ℕ → ℕ
 atLeast d x n = countBelow (λ i. leb x (d i)) n
 
--- the first decimal part below x, from the largest to the smallest, of which at least `left` of n positions have one as large or larger
+-- from the largest to the smallest, the first decimal part below x for which at least `left` of n positions have one as large or larger; none where there is none
 unfoldable pub firstBelow : (ℕ → ℕ) → ℕ → ℕ → ℕ → Option ℕ
 firstBelow d n left zero = none
 firstBelow d n left (suc x) = cond (leb left (atLeast d x n)) (some x) (firstBelow d n left x)
 
--- the cut-off: the decimal part at which what is left for n positions runs out; none where nothing is left
+-- the cut-off: the decimal part at which what is left for n positions, no more than one contract each, runs out; none where nothing is left
 unfoldable pub cutOff : (ℕ → ℕ) → ℕ → ℕ → Option ℕ
 cutOff d n left = cond (eqb left 0) none (firstBelow d n left (10 ^ 5))
+
+-- the cut-off of the list hs with S exercised
+abbrev pub cutOffIn : List ℕ → ℕ → Option ℕ
+cutOffIn hs S = cutOff (decimals hs S) (length hs) (remainder hs S)
 
 -- what is left runs out at x: fewer positions have a larger decimal part, and at least as many have one as large or larger
 pub record RunsOutAt (d : ℕ → ℕ) (n left x : ℕ) : Type 0 where

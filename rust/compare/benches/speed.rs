@@ -159,7 +159,9 @@ fn allocations() {
     println!(
         "P has two S at each size: with 3/7 of T the decimal parts of many positions gather about the sevenths, with"
     );
-    println!("3123/7919 they are spread as far as the shorts differ. Of one position nothing remains for round two.");
+    println!(
+        "3123/7919 they are spread as far as the shorts differ. With these T nothing remains of one position for round two."
+    );
     println!(
         "Cleared: the output was filled with 0 before each call, within the time; else it holds the last amounts."
     );

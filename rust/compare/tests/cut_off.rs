@@ -1,6 +1,6 @@
-// Round two by its cut-off, the decimal part at which what remains of S runs out. The separate version's cut-off has to
-// be where it says, and the library's amounts those of one walk by it. Shares and walk are written here once more, so
-// the library is held against a second way beside the separate version's ranking.
+// Round two by its cut-off. The separate version's cut-off has to be where what remains of S runs out, and the
+// library's amounts those of one walk by it. Shares and walk are written here once more, so the library is held against
+// a second way beside the separate version's ranking.
 
 use std::cmp::Ordering;
 use std::collections::BTreeSet;

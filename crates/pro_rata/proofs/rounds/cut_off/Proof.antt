@@ -18,7 +18,7 @@ abbrev μ-loop : tie.MeasureT-loop
 μ-loop parts left low₀ width₀ enough₀ larger₀ low width enough larger = width
 
 returns : tie.Need-returns Inv-loop μ-loop
-returns c = none-found _ _ _ (c .before .before .pre .five) (c .before .before .pre .most) (c .if1 .taken)
+returns c = none-found _ _ _ (c .if1 .taken)
 
 cast-enough : tie.Need-cast-enough Inv-loop μ-loop
 cast-enough c = search needs

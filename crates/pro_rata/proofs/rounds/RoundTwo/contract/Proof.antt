@@ -2,7 +2,7 @@
 use mathlib.Core.Path.{sym, ap, _∙_}
 use native.Mathlib.Omega.{arith}
 use Rattle.series.specs.Sums.{bit}
-use Rattle.pro_rata.proofs.RoundTwoLaws.{above, tied, below}
+use Rattle.series.proofs.ProRataLaws.{above, tied, below}
 use Rattle.pro_rata.proofs.rounds.RoundTwo.contract.Statement.{statement}
 use Rattle.pro_rata.proofs.rounds.RoundTwo.contract.Tie as tie
 
