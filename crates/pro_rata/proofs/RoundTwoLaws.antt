@@ -14,7 +14,7 @@ use Rattle.series.specs.ProRata.{turn, larger, equal, roundTwo}
 use Rattle.series.specs.CutOff.{atLeast, cutOff, RunsOutAt, atCutOff, byCutOff, roundTwoAt, roundTwoByCutOff}
 use Rattle.series.proofs.SumLaws.{bit-le, listed-cong}
 use Rattle.series.proofs.ProRataLaws.{turn-first, turn-after, above, tied, below, atLeast-parts, larger-next, no-cut-off, cut-off-is, cut-off-only, none-left, round-two-by-cut-off}
-use Rattle.pro_rata.specs.Rounds.{at, added, counted, cutOffOf}
+use Rattle.pro_rata.specs.Rounds.{at, Decimals, added, counted, cutOffOf}
 use Rattle.pro_rata.specs.declared.rounds.Cutoff.the-variants.{At, Nothing}
 
 -- the turn of a tied position, with no division
@@ -52,13 +52,19 @@ pub record CutOffAt (d : ℕ → ℕ) (n left c l g : ℕ) : Type 0 where
 pub none-found : (d : ℕ → ℕ) (n left : ℕ) → left ≡ 0 → cutOffOf Nothing ≡ counted d n (cutOff d n left)
 none-found d n left e = rw (no-cut-off d n left e) refl
 
-module _ (d : ℕ → ℕ) (n left : ℕ) (five : (i : ℕ) → i < n → d i < 100000) (most : left ≤ n) where
+module _ (parts : List ℕ) (left : ℕ) (ok : Decimals parts left) where
+  abbrev d : ℕ → ℕ
+  d = at parts
+
+  abbrev n : ℕ
+  n = length parts
+
   -- where at least as many positions as are left have c or more, and fewer c + 1 or more, that is the cut-off with its counts
   pub found : (c next enough l : ℕ) → next ≡ c + 1 → enough ≡ atLeast d c n → l ≡ atLeast d next n → left ≤ enough → l < left → cutOffOf (At c l (enough - l)) ≡ counted d n (cutOff d n left)
   found c next enough l one enough-are l-are some-left fewer =
-      let above : l ≡ larger d c n = l-are ∙ ap (λ x. atLeast d x n) (one ∙ add-one c) ∙ sym (larger-next d c n) in
-      let share : enough - l ≡ equal d c n = omega (arith, atLeast-parts d c n) in
-      rw (cut-off-only d n left five most c (record { fewer = omega arith; enough = omega arith }), share, above)
+      let larger-are : l ≡ larger d c n = l-are ∙ ap (λ x. atLeast d x n) (one ∙ add-one c) ∙ sym (larger-next d c n) in
+      let tied-are : enough - l ≡ equal d c n = omega (arith, atLeast-parts d c n) in
+      rw (cut-off-only d n left (ok .five) (ok .most) c (record { fewer = omega arith; enough = omega arith }), tied-are, larger-are)
 
   -- and the other way round
   pub is-cut-off : (c l g : ℕ) → cutOffOf (At c l g) ≡ counted d n (cutOff d n left) → CutOffAt d n left c l g
@@ -79,13 +85,13 @@ module _ (d : ℕ → ℕ) (n left : ℕ) (five : (i : ℕ) → i < n → d i < 
   is-none e = by-cases (cutOff d n left) refl e
     where
       by-cases : (o : Option ℕ) → cutOff d n left ≡ o → cutOffOf Nothing ≡ counted d n o → left ≡ 0
-      by-cases none q e = none-left d n left five most q
+      by-cases none q e = none-left d n left (ok .five) (ok .most) q
       by-cases (some x) q e = let z : _≡_ {A = ℕ} 0 1 = cc in absurd (omega arith)
 
   -- the walk by the cut-off serves as the rules do
   module _ (c l g : ℕ) (cut : CutOffAt d n left c l g) where
     runs-out : RunsOutAt d n left c
-    runs-out = cut-off-is d n left five most c (cut .is)
+    runs-out = cut-off-is d n left (ok .five) (ok .most) c (cut .is)
 
     pub larger-lt : l < left
     larger-lt = omega (arith, runs-out .fewer, cut .larger-are)
@@ -101,7 +107,7 @@ module _ (d : ℕ → ℕ) (n left : ℕ) (five : (i : ℕ) → i < n → d i < 
     by-rank draw i h =
         ap (λ t. bit (ltb c (d i)) + bit (eqb (d i) c) * bit (ltb t (left - larger d c n))) (turn-mod draw (equal d c n) (equal d c i))
         ∙ sym (ap (λ o. roundTwoAt o d n draw left i) (cut .is))
-        ∙ sym (round-two-by-cut-off d n left five most draw i h)
+        ∙ sym (round-two-by-cut-off d n left (ok .five) (ok .most) draw i h)
 
     pub service : (draw : ℕ) (xs : List ℕ) → length xs ≡ n → added xs (byCutOff d c (draw % g) g (left - l)) ≡ added xs (roundTwo d n draw left)
     service draw xs e =

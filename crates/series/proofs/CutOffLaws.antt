@@ -84,6 +84,7 @@ module _ (s : Series) (room : ℕ) (ok : Accepted s room) where
   unfolding proRata
   amounts-by-cut-off draw = listed-cong _ _ (n s) (λ i h. ap (roundOne (s .shorts) (exercised s) i +_) (by-rank-by-cut-off draw i h))
 
+-- the cut-off of a list, known by its properties
 known : (hs : List ℕ) (S c : ℕ)
     → (0 < total hs) × (total hs ≤ MOST_CONTRACTS) × (length hs ≤ MOST_POSITIONS) × (S ≤ total hs) × (larger (decimals hs S) c (length hs) < remainder hs S) × (remainder hs S ≤ atLeast (decimals hs S) c (length hs))
     → cutOffIn hs S ≡ some c

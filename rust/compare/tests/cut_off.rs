@@ -166,6 +166,12 @@ fn list(shorts: Vec<u32>) -> Series {
     Series { accounts: make::upward(shorts.len()), shorts }
 }
 
+// Shorts that are each a multiple of d.
+fn multiples(random: &mut Random, d: u64, positions: u64) -> Series {
+    let most = MOST / d / positions;
+    list((0..positions).map(|_| (d * random.between(1, most)) as u32).collect())
+}
+
 #[test]
 fn every_small_series() {
     let mut cases = Cases::new("cut-off, small", 0xC0FF_0001);
@@ -254,8 +260,7 @@ fn nothing_remains() {
         let random = &mut cases.random;
         let d = random.pick(&[1, 2, 4, 5, 8, 10, 16, 25, 125, 1_000, 1 << 17]);
         let positions = random.spread(POSITIONS.min(MOST / d));
-        let most = MOST / d / positions;
-        let list = list((0..positions).map(|_| (d * random.between(1, most)) as u32).collect());
+        let list = multiples(random, d, positions);
         let n = random.between(1, d);
         cases.series(&list, (list.total() / d * n) as u32, &[]);
     }
@@ -293,8 +298,7 @@ fn all_positions_served() {
         let random = &mut cases.random;
         let (n, d) = random.pick(&[(1, 3), (2, 3), (3, 7), (4, 9), (5, 11), (1, 1 << 18), (77, 1 << 18)]);
         let positions = random.between(2, POSITIONS.min(MOST / d));
-        let most = MOST / d / positions;
-        let list = list((0..positions).map(|_| (d * random.between(1, most)) as u32).collect());
+        let list = multiples(random, d, positions);
         let at = cases.series(&list, (list.total() / d * n) as u32, &[]);
         assert_eq!(at, Some((positions as u32, positions as u32)));
     }

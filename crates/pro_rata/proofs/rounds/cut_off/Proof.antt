@@ -62,7 +62,7 @@ sub-tied c = omega arith
 returns-2 : tie.Need-returns-2 Inv-loop μ-loop
 returns-2 c = let loop = c .before .loop in
     let start = c .before .before .before .before in
-    found _ _ _ (start .pre .five) (start .pre .most) (loop .low) (loop .low + loop .width) (loop .enough) (loop .larger) (omega arith) (loop .inv .4) (loop .inv .5) (loop .inv .2) (loop .inv .3)
+    found _ _ (start .pre) (loop .low) (loop .low + loop .width) (loop .enough) (loop .larger) (omega arith) (loop .inv .4) (loop .inv .5) (loop .inv .2) (loop .inv .3)
 
 pub cut-off-spec : {M : Type 1} → statement M
 cut-off-spec =
