@@ -4,17 +4,17 @@
  * Each function but dilbreth_explain answers 0, or the number of the refusal that
  * it met:
  *
- *    1  accounts and shorts differ in length
+ *    1  codes, accounts and shorts differ in length
  *    2  there are more than 4,096 positions
  *    3  there are no positions
  *    4  an output is too short
- *    5  an account is 0 or not above the one before it
+ *    5  a code (W) or an account is 0 or does not rise
  *    6  a position has no short contracts
  *    7  the positions hold more than 10,000,000 contracts
  *    8  no contract is exercised
  *    9  more is exercised than the positions hold
  *   10  the draw is outside 1 to T (W) or 1 to 10,000 (L)
- *   11  the text has more than 32,768 bytes
+ *   11  the text has, or would have, over 32,768 bytes
  *   12  line 1 or line 3 is missing or not exact
  *   13  bad line 2 or position line (number: 1-10 digits)
  *   14  the method is not W, P or L
@@ -22,6 +22,7 @@
  *   16  a count of the day is above 10,000,000
  *   17  closing purchases exceed short plus opening sales
  *   18  more is exercised than the day's limit
+ *   19  an account is 0 or stands earlier in the list
  *
  * On a refusal nothing else is written: every list, every byte of a text and
  * every number behind a pointer is as it was before the call.
@@ -43,7 +44,7 @@ extern "C" {
 
 /* Raised where a signature or a constant changes or a call is new; 1 was the first
    delivery's. */
-#define DILBRETH_VERSION 3
+#define DILBRETH_VERSION 4
 
 /* The methods. */
 #define DILBRETH_WHEEL ((uint8_t)'W')
@@ -52,10 +53,17 @@ extern "C" {
 
 /*
  * Assigns the exercised contracts of one series to its short positions.
- * Refuses 14 first, for a method that is none of the three, then 1 to 10.
+ * Refuses 14 first, for a method that is none of the three, then 1 to 4, then, for
+ * each position in turn, 5, 19 (under W only), 6 and 7, then 8 to 10.
  *
  * method        'W' the wheel, 'P' pro rata, 'L' the starting number
- * accounts      the account of each position, 1 or more, rising
+ * codes         the identification code of each position. Under W the list stands in
+ *               the order of its codes, 1 or more, rising. Under P and L no code is
+ *               looked at
+ * codes_len     the length of codes; under W equal to accounts_len, else any (0 too)
+ * accounts      the account of each position, 1 or more: under P and L rising, under W
+ *               each other than all earlier ones. A caller without codes hands the
+ *               accounts as codes too
  * accounts_len  the length of accounts, 1 to 4,096
  * shorts        the short contracts of each position, 1 or more; their sum is T,
  *               at most 10,000,000
@@ -74,6 +82,7 @@ extern "C" {
  *               (0 where S equals T or the list has one position)
  */
 uint32_t dilbreth_allocate(uint8_t method,
+                           const uint32_t *codes, size_t codes_len,
                            const uint32_t *accounts, size_t accounts_len,
                            const uint32_t *shorts, size_t shorts_len,
                            uint32_t exercised, uint32_t draw,
@@ -82,12 +91,15 @@ uint32_t dilbreth_allocate(uint8_t method,
 
 /*
  * Reads the text of a series. Refuses 11 to 15 as the text's lines meet them,
- * and last 4 where accounts or shorts is shorter than the positions of the text.
+ * and last 4 where codes, accounts or shorts is shorter than the positions of the text.
  * A number has one to ten digits, leading zeros allowed; more are 13. The series
  * itself is not judged.
  *
  * text          the bytes of the text
  * text_len      its length, at most 32,768
+ * codes         receives the code of each position, which is its account where line 3
+ *               has no code; elements past them are kept
+ * codes_len     the length of codes (1,024 is always enough)
  * accounts      receives the account of each position; elements past them are kept
  * accounts_len  the length of accounts (1,024 is always enough)
  * shorts        receives the shorts of each position; elements past them are kept
@@ -98,6 +110,7 @@ uint32_t dilbreth_allocate(uint8_t method,
  * positions     receives the number of positions, 0 for a text without any
  */
 uint32_t dilbreth_read(const uint8_t *text, size_t text_len,
+                       uint32_t *codes, size_t codes_len,
                        uint32_t *accounts, size_t accounts_len,
                        uint32_t *shorts, size_t shorts_len,
                        uint8_t *method, uint32_t *exercised, uint32_t *draw,
@@ -105,13 +118,16 @@ uint32_t dilbreth_read(const uint8_t *text, size_t text_len,
 
 /*
  * Writes the text of a series. Refuses 14 first, for a method that is none of
- * the three, then 1, then 15 for more than 1,024 positions, then 4 where text is
- * shorter than what there is to write. Accounts, shorts, S and draw are not judged.
- * No number is written with leading zeros.
+ * the three, then 1, then 15 for more than 1,024 positions, then 11 for a text of more
+ * than 32,768 bytes, then 4 where text is shorter than what there is to write. Codes,
+ * accounts, shorts, S and draw are not judged. Codes are written where some code is not
+ * its account, else line 3 has no code. No number is written with leading zeros.
  *
  * method        'W', 'P' or 'L'
  * exercised     S
  * draw          the draw
+ * codes         the code of each position
+ * codes_len     the length of codes, equal to accounts_len
  * accounts      the account of each position
  * accounts_len  the length of accounts, at most 1,024
  * shorts        the shorts of each position
@@ -121,6 +137,7 @@ uint32_t dilbreth_read(const uint8_t *text, size_t text_len,
  * written       receives the number of bytes written
  */
 uint32_t dilbreth_write(uint8_t method, uint32_t exercised, uint32_t draw,
+                        const uint32_t *codes, size_t codes_len,
                         const uint32_t *accounts, size_t accounts_len,
                         const uint32_t *shorts, size_t shorts_len,
                         uint8_t *text, size_t text_len,

@@ -9,7 +9,7 @@ unit dilbreth;
 interface
 
 const
-  DILBRETH_VERSION = 3;
+  DILBRETH_VERSION = 4;
   DILBRETH_WHEEL = Ord('W');
   DILBRETH_PRO_RATA = Ord('P');
   DILBRETH_LOTTERY = Ord('L');
@@ -18,6 +18,7 @@ const
   DILBRETH_LONGEST_EXPLANATION = 50;
 
 function dilbreth_allocate(method: Byte;
+  codes: PLongWord; codes_len: SizeUInt;
   accounts: PLongWord; accounts_len: SizeUInt;
   shorts: PLongWord; shorts_len: SizeUInt;
   exercised, draw: LongWord;
@@ -25,12 +26,14 @@ function dilbreth_allocate(method: Byte;
   total, further: PLongWord): LongWord; cdecl; external;
 
 function dilbreth_read(text: PByte; text_len: SizeUInt;
+  codes: PLongWord; codes_len: SizeUInt;
   accounts: PLongWord; accounts_len: SizeUInt;
   shorts: PLongWord; shorts_len: SizeUInt;
   method: PByte; exercised, draw: PLongWord;
   positions: PSizeUInt): LongWord; cdecl; external;
 
 function dilbreth_write(method: Byte; exercised, draw: LongWord;
+  codes: PLongWord; codes_len: SizeUInt;
   accounts: PLongWord; accounts_len: SizeUInt;
   shorts: PLongWord; shorts_len: SizeUInt;
   text: PByte; text_len: SizeUInt;

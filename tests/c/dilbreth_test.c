@@ -1,5 +1,5 @@
-/* The archive and its header, from C: case M, starred series, series that need no draw, leading zeros, the circular's
-   days, a refusal of each call, the words for a refusal. */
+/* The archive and its header, from C: case M, starred series, series that need no draw, leading zeros, codes, the
+   circular's days, a refusal of each call, the words for a refusal. */
 #include <inttypes.h>
 #include <stdio.h>
 #include <string.h>
@@ -51,8 +51,8 @@ static void known(const struct series *s)
 
     for (i = 0; i < 6; i++)
         amounts[i] = 999;
-    number = dilbreth_allocate(s->method, ACCOUNTS, s->count, s->shorts, s->count, s->exercised, s->draw,
-                               amounts, 6, &total, &further);
+    number = dilbreth_allocate(s->method, ACCOUNTS, s->count, ACCOUNTS, s->count, s->shorts, s->count, s->exercised,
+                               s->draw, amounts, 6, &total, &further);
     holds = number == 0 && total == s->total && further == s->further;
     for (i = 0; i < 6; i++)
         holds = holds && amounts[i] == (i < s->count ? s->amounts[i] : 999);
@@ -63,19 +63,21 @@ static void known(const struct series *s)
 static void case_m(void)
 {
     const size_t length = sizeof M - 1, printed = sizeof M_ASSIGNED - 1;
-    uint32_t accounts[6] = {0}, shorts[6] = {0}, exercised = 0, draw = 0;
+    uint32_t codes[6] = {0}, accounts[6] = {0}, shorts[6] = {0}, exercised = 0, draw = 0;
     uint8_t method = 0, text[100], output[100];
     size_t positions = 0, written = 0;
 
-    accounts[5] = shorts[5] = 999;
-    see("case M read", dilbreth_read((const uint8_t *)M, length, accounts, 6, shorts, 6, &method, &exercised,
-                                     &draw, &positions) == 0 &&
+    codes[5] = accounts[5] = shorts[5] = 999;
+    see("case M read", dilbreth_read((const uint8_t *)M, length, codes, 6, accounts, 6, shorts, 6, &method,
+                                     &exercised, &draw, &positions) == 0 &&
                            method == 'L' && exercised == 13 && draw == 4855 && positions == 5 &&
+                           memcmp(codes, ACCOUNTS, sizeof ACCOUNTS) == 0 &&
                            memcmp(accounts, ACCOUNTS, sizeof ACCOUNTS) == 0 && shorts[0] == 5 && shorts[1] == 8 &&
-                           shorts[2] == 2 && shorts[3] == 10 && shorts[4] == 11 && accounts[5] == 999 &&
-                           shorts[5] == 999);
+                           shorts[2] == 2 && shorts[3] == 10 && shorts[4] == 11 && codes[5] == 999 &&
+                           accounts[5] == 999 && shorts[5] == 999);
     memset(text, 0xEE, sizeof text);
-    see("case M written", dilbreth_write('L', 13, 4855, accounts, 5, shorts, 5, text, sizeof text, &written) == 0 &&
+    see("case M written", dilbreth_write('L', 13, 4855, codes, 5, accounts, 5, shorts, 5, text, sizeof text,
+                                         &written) == 0 &&
                               written == length && memcmp(text, M, length) == 0 && text[length] == 0xEE);
     memset(output, 0xEE, sizeof output);
     see("case M responded to",
@@ -89,56 +91,102 @@ static void leading_zeros(void)
     static const char WRITTEN[] = "method,exercised,draw\nP,4,0\naccount,short\n1,5\n12,3\n";
     static const char ELEVEN[] = "method,exercised,draw\nP,4,0\naccount,short\n00000000001,5\n";
     static const char TWICE[] = "method,exercised,draw\nP,4,0\naccount,short\n1,5\n0001,3\n";
-    uint32_t accounts[2] = {0}, shorts[2] = {0}, exercised = 0, draw = 9;
+    uint32_t codes[2] = {0}, accounts[2] = {0}, shorts[2] = {0}, exercised = 0, draw = 9;
     uint8_t method = 0, text[100];
     size_t positions = 0, written = 0;
 
-    see("read leading zeros", dilbreth_read((const uint8_t *)SPELLED, sizeof SPELLED - 1, accounts, 2, shorts, 2,
-                                            &method, &exercised, &draw, &positions) == 0 &&
+    see("read leading zeros", dilbreth_read((const uint8_t *)SPELLED, sizeof SPELLED - 1, codes, 2, accounts, 2, shorts,
+                                            2, &method, &exercised, &draw, &positions) == 0 &&
                                   method == 'P' && exercised == 4 && draw == 0 && positions == 2 &&
                                   accounts[0] == 1 && accounts[1] == 12 && shorts[0] == 5 && shorts[1] == 3);
     see("write no leading zeros",
-        dilbreth_write(method, exercised, draw, accounts, 2, shorts, 2, text, sizeof text, &written) == 0 &&
+        dilbreth_write(method, exercised, draw, codes, 2, accounts, 2, shorts, 2, text, sizeof text, &written) == 0 &&
             written == sizeof WRITTEN - 1 && memcmp(text, WRITTEN, written) == 0);
     see("read refuses 13 for eleven digits",
-        dilbreth_read((const uint8_t *)ELEVEN, sizeof ELEVEN - 1, accounts, 2, shorts, 2, &method, &exercised, &draw,
-                      &positions) == 13);
+        dilbreth_read((const uint8_t *)ELEVEN, sizeof ELEVEN - 1, codes, 2, accounts, 2, shorts, 2, &method, &exercised,
+                      &draw, &positions) == 13);
     see("respond with 5 to an account in two spellings",
         dilbreth_respond((const uint8_t *)TWICE, sizeof TWICE - 1, text, sizeof text, &written) == 0 &&
             written == 10 && memcmp(text, "refused\n5\n", 10) == 0);
+}
+
+static void by_codes(void)
+{
+    static const char CODED[] =
+        "method,exercised,draw\nW,175,1\ncode,account,short\n10,500,60\n20,700,200\n30,100,95\n";
+    static const char ASSIGNED[] = "account,assigned\n500,35\n700,97\n100,43\n";
+    uint32_t codes[3] = {0}, accounts[3] = {0}, shorts[3] = {0}, amounts[3] = {9, 9, 9};
+    uint32_t exercised = 0, draw = 0, total = 0, further = 0;
+    uint8_t method = 0, text[100];
+    size_t positions = 0, written = 0;
+
+    see("read codes", dilbreth_read((const uint8_t *)CODED, sizeof CODED - 1, codes, 3, accounts, 3, shorts, 3, &method,
+                                    &exercised, &draw, &positions) == 0 &&
+                          method == 'W' && positions == 3 && codes[0] == 10 && codes[1] == 20 && codes[2] == 30 &&
+                          accounts[0] == 500 && accounts[1] == 700 && accounts[2] == 100 && shorts[2] == 95);
+    see("allocate by codes", dilbreth_allocate(method, codes, 3, accounts, 3, shorts, 3, exercised, draw, amounts, 3,
+                                               &total, &further) == 0 &&
+                                 total == 355 && further == 7 && amounts[0] == 35 && amounts[1] == 97 &&
+                                 amounts[2] == 43);
+    see("write codes", dilbreth_write(method, exercised, draw, codes, 3, accounts, 3, shorts, 3, text, sizeof text,
+                                      &written) == 0 &&
+                           written == sizeof CODED - 1 && memcmp(text, CODED, written) == 0);
+    see("respond in code order",
+        dilbreth_respond((const uint8_t *)CODED, sizeof CODED - 1, text, sizeof text, &written) == 0 &&
+            written == sizeof ASSIGNED - 1 && memcmp(text, ASSIGNED, written) == 0);
+    see("allocate refuses 1 for codes of another length under W",
+        dilbreth_allocate('W', codes, 2, accounts, 3, shorts, 3, 1, 1, amounts, 3, &total, &further) == 1);
+    see("allocate refuses 5 for accounts that fall under L, with no code",
+        dilbreth_allocate('L', codes, 0, accounts, 3, shorts, 3, 1, 1, amounts, 3, &total, &further) == 5);
+    accounts[2] = 500;
+    see("allocate refuses 19",
+        dilbreth_allocate('W', codes, 3, accounts, 3, shorts, 3, 1, 1, amounts, 3, &total, &further) == 19);
+    codes[2] = 20;
+    see("allocate refuses 5 before 19",
+        dilbreth_allocate('W', codes, 3, accounts, 3, shorts, 3, 1, 1, amounts, 3, &total, &further) == 5);
+    see("write refuses 1 for codes of another length",
+        dilbreth_write('L', 1, 1, codes, 2, accounts, 3, shorts, 3, text, sizeof text, &written) == 1);
 }
 
 static void refusals(void)
 {
     static const uint32_t shorts[5] = {5, 8, 2, 10, 11};
     const size_t length = sizeof M - 1;
-    uint32_t amounts[5] = {9, 9, 9, 9, 9}, other[5] = {9, 9, 9, 9, 9}, total = 77, further = 78;
-    uint32_t exercised = 79, draw = 80;
+    uint32_t codes[5] = {9, 9, 9, 9, 9}, amounts[5] = {9, 9, 9, 9, 9}, other[5] = {9, 9, 9, 9, 9};
+    uint32_t total = 77, further = 78, exercised = 79, draw = 80;
     uint8_t method = 81, bytes[100], before[100];
     size_t positions = 82, written = 83;
     int kept;
 
     memset(bytes, 0xEE, sizeof bytes);
     memset(before, 0xEE, sizeof before);
-    see("allocate refuses 14", dilbreth_allocate('X', ACCOUNTS, 5, shorts, 4, 0, 0, amounts, 0, &total, &further) == 14);
-    see("allocate refuses 1", dilbreth_allocate('W', ACCOUNTS, 5, shorts, 4, 0, 0, amounts, 5, &total, &further) == 1);
-    see("allocate refuses 4", dilbreth_allocate('W', ACCOUNTS, 5, shorts, 5, 0, 0, amounts, 4, &total, &further) == 4);
-    see("allocate refuses 9", dilbreth_allocate('P', ACCOUNTS, 5, shorts, 5, 37, 0, amounts, 5, &total, &further) == 9);
+    see("allocate refuses 14",
+        dilbreth_allocate('X', ACCOUNTS, 5, ACCOUNTS, 5, shorts, 4, 0, 0, amounts, 0, &total, &further) == 14);
+    see("allocate refuses 1",
+        dilbreth_allocate('W', ACCOUNTS, 5, ACCOUNTS, 5, shorts, 4, 0, 0, amounts, 5, &total, &further) == 1);
+    see("allocate refuses 4",
+        dilbreth_allocate('W', ACCOUNTS, 5, ACCOUNTS, 5, shorts, 5, 0, 0, amounts, 4, &total, &further) == 4);
+    see("allocate refuses 9",
+        dilbreth_allocate('P', ACCOUNTS, 5, ACCOUNTS, 5, shorts, 5, 37, 0, amounts, 5, &total, &further) == 9);
     see("allocate refuses 10",
-        dilbreth_allocate('W', ACCOUNTS, 5, shorts, 5, 35, 37, amounts, 5, &total, &further) == 10);
+        dilbreth_allocate('W', ACCOUNTS, 5, ACCOUNTS, 5, shorts, 5, 35, 37, amounts, 5, &total, &further) == 10);
     see("allocate refuses 10 for one position of W",
-        dilbreth_allocate('W', ACCOUNTS, 1, shorts, 1, 4, 0, amounts, 5, &total, &further) == 10);
-    see("read refuses 13", dilbreth_read((const uint8_t *)M, length - 1, amounts, 5, other, 5, &method, &exercised,
-                                         &draw, &positions) == 13);
-    see("read refuses 4", dilbreth_read((const uint8_t *)M, length, amounts, 5, other, 4, &method, &exercised, &draw,
-                                        &positions) == 4);
-    see("write refuses 14", dilbreth_write('l', 13, 4855, ACCOUNTS, 5, shorts, 4, bytes, 0, &written) == 14);
-    see("write refuses 4", dilbreth_write('L', 13, 4855, ACCOUNTS, 5, shorts, 5, bytes, length - 1, &written) == 4);
+        dilbreth_allocate('W', ACCOUNTS, 1, ACCOUNTS, 1, shorts, 1, 4, 0, amounts, 5, &total, &further) == 10);
+    see("read refuses 13", dilbreth_read((const uint8_t *)M, length - 1, codes, 5, amounts, 5, other, 5, &method,
+                                         &exercised, &draw, &positions) == 13);
+    see("read refuses 4", dilbreth_read((const uint8_t *)M, length, codes, 5, amounts, 5, other, 4, &method, &exercised,
+                                        &draw, &positions) == 4);
+    see("read refuses 4 for codes", dilbreth_read((const uint8_t *)M, length, codes, 4, amounts, 5, other, 5, &method,
+                                                  &exercised, &draw, &positions) == 4);
+    see("write refuses 14",
+        dilbreth_write('l', 13, 4855, ACCOUNTS, 5, ACCOUNTS, 5, shorts, 4, bytes, 0, &written) == 14);
+    see("write refuses 4",
+        dilbreth_write('L', 13, 4855, ACCOUNTS, 5, ACCOUNTS, 5, shorts, 5, bytes, length - 1, &written) == 4);
     see("respond refuses 4",
         dilbreth_respond((const uint8_t *)M, length, bytes, sizeof M_ASSIGNED - 2, &written) == 4);
-    kept = amounts[0] == 9 && memcmp(amounts, other, sizeof amounts) == 0 && total == 77 && further == 78 &&
-           exercised == 79 && draw == 80 && method == 81 && positions == 82 && written == 83 &&
-           memcmp(bytes, before, sizeof bytes) == 0;
+    kept = amounts[0] == 9 && memcmp(amounts, other, sizeof amounts) == 0 &&
+           memcmp(amounts, codes, sizeof amounts) == 0 && total == 77 && further == 78 && exercised == 79 &&
+           draw == 80 && method == 81 && positions == 82 && written == 83 && memcmp(bytes, before, sizeof bytes) == 0;
     see("refusals keep every output", kept);
     see("respond writes a refusal of the text", dilbreth_respond(bytes, 0, bytes + 1, 11, &written) == 0 &&
                                                     written == 11 && memcmp(bytes + 1, "refused\n12\n", 11) == 0);
@@ -222,6 +270,7 @@ int main(void)
         known(&KNOWN[i]);
     case_m();
     leading_zeros();
+    by_codes();
     refusals();
     for (i = 0; i < sizeof INVESTORS / sizeof INVESTORS[0]; i++)
         investor(&INVESTORS[i]);

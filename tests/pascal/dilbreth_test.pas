@@ -1,4 +1,4 @@
-{ The unit and the archive, from Pascal: case M through each call, series that need no draw, leading zeros, the
+{ The unit and the archive, from Pascal: case M through each call, series that need no draw, leading zeros, codes, the
   circular's days, refusals. }
 program dilbreth_test;
 
@@ -14,12 +14,15 @@ const
   M_SPELLED = 'method,exercised,draw'#10'L,0013,0000004855'#10'account,short'#10
     + '0001,5'#10'0002,08'#10'03,002'#10'4,10'#10'0000000005,11'#10;
   ELEVEN = 'method,exercised,draw'#10'L,13,4855'#10'account,short'#10'00000000001,5'#10;
+  A_CODED = 'method,exercised,draw'#10'W,175,1'#10'code,account,short'#10'10,500,60'#10'20,700,200'#10'30,100,95'#10;
+  A_ASSIGNED = 'account,assigned'#10'500,35'#10'700,97'#10'100,43'#10;
+  AMOUNTS_OF_A: array[0..5] of LongWord = (35, 97, 43, 999, 999, 999);
   AMOUNTS_OF_M: array[0..5] of LongWord = (0, 0, 0, 8, 5, 999);
 
 var
   wrong: Integer = 0;
   series, bytes: string;
-  accounts, shorts, amounts: array[0..5] of LongWord;
+  codes, accounts, shorts, amounts: array[0..5] of LongWord;
   method: Byte;
   exercised, draw, total, further: LongWord;
   positions, written: SizeUInt;
@@ -45,9 +48,10 @@ end;
 { Reads a text into the lists; answers 0 or the number of the refusal. }
 function ReadText(const text: string): LongWord;
 begin
+  FillDWord(codes, 6, 999);
   FillDWord(accounts, 6, 999);
   FillDWord(shorts, 6, 999);
-  ReadText := dilbreth_read(PByte(text), Length(text), @accounts[0], 6, @shorts[0], 6,
+  ReadText := dilbreth_read(PByte(text), Length(text), @codes[0], 6, @accounts[0], 6, @shorts[0], 6,
     @method, @exercised, @draw, @positions);
 end;
 
@@ -57,7 +61,8 @@ begin
   FillDWord(amounts, 6, 999);
   total := 999;
   further := 999;
-  Undrawn := dilbreth_allocate(by, @accounts[0], count, @shorts[0], count, s, 0, @amounts[0], 6, @total, @further);
+  Undrawn := dilbreth_allocate(by, @codes[0], count, @accounts[0], count, @shorts[0], count, s, 0,
+    @amounts[0], 6, @total, @further);
 end;
 
 { An investor's day; answers 0 or the number of the refusal. }
@@ -90,11 +95,12 @@ begin
   FillDWord(amounts, 6, 999);
   See('read', (ReadText(series) = 0)
     and (method = DILBRETH_LOTTERY) and (exercised = 13) and (draw = 4855) and (positions = 5)
-    and (accounts[4] = 5) and (shorts[4] = 11) and (accounts[5] = 999) and (shorts[5] = 999));
-  See('allocate', (dilbreth_allocate(method, @accounts[0], 5, @shorts[0], 5, exercised, draw,
+    and (codes[4] = 5) and (accounts[4] = 5) and (shorts[4] = 11)
+    and (codes[5] = 999) and (accounts[5] = 999) and (shorts[5] = 999));
+  See('allocate', (dilbreth_allocate(method, @codes[0], 5, @accounts[0], 5, @shorts[0], 5, exercised, draw,
     @amounts[0], 6, @total, @further) = 0)
     and (total = 36) and (further = 18) and (CompareDWord(amounts, AMOUNTS_OF_M, 6) = 0));
-  See('allocate refuses 9', dilbreth_allocate(DILBRETH_WHEEL, @accounts[0], 5, @shorts[0], 5, 37, 1,
+  See('allocate refuses 9', dilbreth_allocate(DILBRETH_WHEEL, @codes[0], 5, @accounts[0], 5, @shorts[0], 5, 37, 1,
     @amounts[0], 6, @total, @further) = 9);
   See('allocate a whole series of W without a draw', (Undrawn(DILBRETH_WHEEL, 5, 36) = 0)
     and (total = 36) and (further = 0) and (CompareDWord(amounts, shorts, 6) = 0));
@@ -103,18 +109,38 @@ begin
   See('allocate one position of L without a draw', (Undrawn(DILBRETH_LOTTERY, 1, 4) = 0)
     and (total = 5) and (further = 0) and (amounts[0] = 4) and (amounts[1] = 999));
   See('allocate refuses 10 for one position of W', (Undrawn(DILBRETH_WHEEL, 1, 4) = 10) and (amounts[0] = 999));
-  See('write', (dilbreth_write(method, exercised, draw, @accounts[0], 5, @shorts[0], 5,
+  See('write', (dilbreth_write(method, exercised, draw, @codes[0], 5, @accounts[0], 5, @shorts[0], 5,
     PByte(bytes), Length(bytes), @written) = 0)
     and (First(written) = series) and (bytes[written + 1] = 'x'));
   See('read refuses 13 for eleven digits', (ReadText(ELEVEN) = 13) and (accounts[0] = 999) and (shorts[0] = 999));
   See('read leading zeros', (ReadText(M_SPELLED) = 0) and (exercised = 13) and (draw = 4855) and (positions = 5)
     and (accounts[0] = 1) and (shorts[2] = 2) and (accounts[4] = 5) and (accounts[5] = 999));
   bytes := StringOfChar('x', 100);
-  See('write no leading zeros', (dilbreth_write(method, exercised, draw, @accounts[0], 5, @shorts[0], 5,
+  See('write no leading zeros', (dilbreth_write(method, exercised, draw, @codes[0], 5, @accounts[0], 5, @shorts[0], 5,
     PByte(bytes), Length(bytes), @written) = 0)
     and (First(written) = series) and (bytes[written + 1] = 'x'));
   See('respond', (dilbreth_respond(PByte(series), Length(series), PByte(bytes), Length(bytes), @written) = 0)
     and (First(written) = M_ASSIGNED));
+  See('read codes', (ReadText(A_CODED) = 0) and (method = DILBRETH_WHEEL) and (positions = 3)
+    and (codes[2] = 30) and (accounts[2] = 100) and (shorts[2] = 95) and (codes[3] = 999));
+  FillDWord(amounts, 6, 999);
+  See('allocate by codes', (dilbreth_allocate(method, @codes[0], 3, @accounts[0], 3, @shorts[0], 3, exercised, draw,
+    @amounts[0], 6, @total, @further) = 0)
+    and (total = 355) and (further = 7) and (CompareDWord(amounts, AMOUNTS_OF_A, 6) = 0));
+  See('allocate refuses 1 for codes of another length under W', dilbreth_allocate(method, @codes[0], 2,
+    @accounts[0], 3, @shorts[0], 3, exercised, draw, @amounts[0], 6, @total, @further) = 1);
+  See('allocate refuses 5 for accounts that fall under P', dilbreth_allocate(DILBRETH_PRO_RATA, @codes[0], 2,
+    @accounts[0], 3, @shorts[0], 3, exercised, draw, @amounts[0], 6, @total, @further) = 5);
+  bytes := StringOfChar('x', 100);
+  See('write codes', (dilbreth_write(method, exercised, draw, @codes[0], 3, @accounts[0], 3, @shorts[0], 3,
+    PByte(bytes), Length(bytes), @written) = 0)
+    and (First(written) = A_CODED) and (bytes[written + 1] = 'x'));
+  series := A_CODED;
+  See('respond in code order', (dilbreth_respond(PByte(series), Length(series), PByte(bytes), Length(bytes),
+    @written) = 0) and (First(written) = A_ASSIGNED));
+  accounts[2] := 500;
+  See('allocate refuses 19', dilbreth_allocate(method, @codes[0], 3, @accounts[0], 3, @shorts[0], 3, exercised, draw,
+    @amounts[0], 6, @total, @further) = 19);
   See('investor X', (Investor(DILBRETH_ORDINARY_DAY, 15, 0, 20, 0, 0, 10, 35) = 0) and After(35, 0, 10));
   See('investor X, final day', (Investor(DILBRETH_FINAL_DAY, 15, 0, 20, 0, 0, 10, 25) = 0) and After(25, 0, 0));
   See('investor Y', (Investor(DILBRETH_ORDINARY_DAY, 0, 20, 20, 0, 0, 0, 0) = 0) and After(20, 20, 20));

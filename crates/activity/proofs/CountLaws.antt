@@ -8,7 +8,7 @@ use lib.Dec.{ltb}
 use lib.ListN.{length, getD, drop, drop-of-length-le}
 use lib.Seq.{drop-cons}
 use Rattle.series.specs.Series.{MOST_CONTRACTS}
-use Rattle.series.proofs.CallLaws.{or-false}
+use Rattle.series.proofs.AcceptedLaws.{or-false}
 use Rattle.activity.specs.Activity.{anyAbove}
 use Rattle.activity.specs.Parts.{Counted}
 

@@ -19,7 +19,7 @@ use Rattle.series.specs.Call.{INCREMENT, assigned, further}
 use Rattle.series.specs.Fair.{AllocatingCall}
 use Rattle.series.specs.declared.Method.{Method}
 use Rattle.series.specs.declared.Terms.{Terms}
-use Rattle.series.proofs.CallLaws.{wheel-judged, lottery-judged, wheel-draw, lottery-draw, starting-on}
+use Rattle.series.proofs.CallLaws.{not-wheel, codes-unseen, wheel-judged, lottery-judged, wheel-draw, lottery-draw, starting-on}
 use Rattle.allocation.specs.Stretch.{Sized}
 use Rattle.allocation.specs.Blocks.{Increment, WheelCall}
 use Rattle.allocation.specs.Lottery.{LotteryCall, DrawCall}
@@ -63,8 +63,8 @@ module _ (t : Terms) (hs out : List ℕ) (T : ℕ) (judged : JudgedSeries hs T (
   unfolding further assigned
   wheel-gives e b vs eb ev =
       record {
-        answered = λ accounts. rw e (ap₂ (λ x f. answered-by Method.Wheel x (some f)) (judged .sum) (eb ∙ ap (λ x. blocksUsed INCREMENT x S) (judged .sum)));
-        written = λ accounts. rw e ev;
+        answered = λ codes accounts. rw e (ap₂ (λ x f. answered-by Method.Wheel x (some f)) (judged .sum) (eb ∙ ap (λ x. blocksUsed INCREMENT x S) (judged .sum)));
+        written = λ codes accounts. rw e ev;
       }
 
   lottery-gives : t .method ≡ Method.Lottery → (f : Option ℕ) (vs : List ℕ) → f ≡ startUsed hs S (startingPlace T (t .draw)) → vs ≡ lotteryAmounts hs S (startingPlace T (t .draw)) → Assigns t hs (answered-by Method.Lottery T f) vs
@@ -72,23 +72,26 @@ module _ (t : Terms) (hs out : List ℕ) (T : ℕ) (judged : JudgedSeries hs T (
   lottery-gives e f vs ef ev =
       let place : startingPlace T (t .draw) ≡ startingPlace (total hs) (t .draw) = ap (λ x. startingPlace x (t .draw)) (judged .sum) in
       record {
-        answered = λ accounts. rw e (ap₂ (answered-by Method.Lottery) (judged .sum) (ef ∙ ap (startUsed hs S) place));
-        written = λ accounts. rw e (ev ∙ ap (lotteryAmounts hs S) place);
+        answered = λ codes accounts. rw e (ap₂ (answered-by Method.Lottery) (judged .sum) (ef ∙ ap (startUsed hs S) place));
+        written = λ codes accounts. rw e (ev ∙ ap (lotteryAmounts hs S) place);
       }
 
--- the call by the starting number, where it is not turned away
-module _ (t : Terms) (accounts hs old : List ℕ) (T : ℕ) (v : value T ≡ verdict (record { terms = t; accounts = accounts; shorts = hs }) (length old)) (e : t .method ≡ Method.Lottery) where
+-- the call by the starting number, where it is not turned away, whatever the codes
+module _ (t : Terms) (codes accounts hs old : List ℕ) (T : ℕ) (v : value T ≡ verdict (record { terms = t; codes = accounts; accounts = accounts; shorts = hs }) (length old)) (e : t .method ≡ Method.Lottery) where
   abbrev s : Series
-  s = record { terms = t; accounts = accounts; shorts = hs }
+  s = record { terms = t; codes = codes; accounts = accounts; shorts = hs }
+
+  verdict-on : value T ≡ verdict s (length old)
+  verdict-on = v ∙ codes-unseen t accounts codes accounts hs (length old) (λ is. not-wheel Method.Lottery refl (sym e ∙ is))
 
   asked : JudgedSeries hs T (t .exercised .0) (take (length hs) old) × NoneApplies (thenDrawRows t T (length hs))
-  asked = call-requires s old T v
+  asked = call-requires s old T verdict-on
 
   pub lottery-asked : DrawCall hs (take (length hs) old) T (t .exercised .0) (t .draw)
   lottery-asked = draw-requires t hs (take (length hs) old) T (asked .0) (asked .1) e
 
   pub lottery-called : (f : Option ℕ) (vs : List ℕ) → f ≡ startUsed hs (t .exercised .0) (startingPlace T (t .draw)) → vs ≡ lotteryAmounts hs (t .exercised .0) (startingPlace T (t .draw)) → AllocatingCall s (answered-by Method.Lottery T f) old (vs ++ drop (length hs) old)
-  lottery-called f vs ef ev = call-allocated s old T v (answered-by Method.Lottery T f) vs (lottery-gives t hs (take (length hs) old) T (asked .0) (asked .1) e f vs ef ev)
+  lottery-called f vs ef ev = call-allocated s old T verdict-on (answered-by Method.Lottery T f) vs (lottery-gives t hs (take (length hs) old) T (asked .0) (asked .1) e f vs ef ev)
 
 -- ---- assigning by a draw
 

@@ -11,6 +11,8 @@ use series::Answer;
 use series::Contracts;
 use series::Method;
 use series::Terms;
+ghost use Prim.Native.Nat.{ℕ};
+ghost use mathlib.Core.List.{List};
 ghost use lib.ListN.{length};
 ghost use Rattle.series.specs.Answers.{answerOf};
 ghost use Rattle.series.specs.Fair.{AllocatingCall};
@@ -23,18 +25,19 @@ const INCREMENT: u32 = 25;
 fn allocate_wheel(
     exercised: Contracts,
     draw: u32,
+    codes: &[u32],
     accounts: &[u32],
     shorts: &[u32],
     amounts: &mut [u32],
 ) -> Answer
-    ensures { λ r. ⌜ AllocatingCall (record { terms = record { method = Method·.Wheel; exercised = exercised; draw = draw }; accounts = now (accounts .entry); shorts = now (shorts .entry) }) (answerOf r) (now (amounts .entry)) (now (amounts .exit)) ⌝ }
+    ensures { λ r. ⌜ AllocatingCall (record { terms = record { method = Method·.Wheel; exercised = exercised; draw = draw }; codes = now (codes .entry); accounts = now (accounts .entry); shorts = now (shorts .entry) }) (answerOf r) (now (amounts .entry)) (now (amounts .exit)) ⌝ }
 {
     let terms = Terms {
         method: Method::Wheel,
         exercised,
         draw,
     };
-    match judging::judge(terms, accounts, shorts, amounts.len()) {
+    match judging::judge(terms, codes, accounts, shorts, amounts.len()) {
         Judged::Refused(refusal) => Answer::Refused(refusal),
         Judged::Accepted(total) => {
             let n = shorts.len();
@@ -51,7 +54,7 @@ fn allocate_wheel(
     }
 }
 
-// The call by the starting number.
+// The call by the starting number, whatever the codes.
 fn allocate_lottery(
     exercised: Contracts,
     draw: u32,
@@ -59,14 +62,14 @@ fn allocate_lottery(
     shorts: &[u32],
     amounts: &mut [u32],
 ) -> Answer
-    ensures { λ r. ⌜ AllocatingCall (record { terms = record { method = Method·.Lottery; exercised = exercised; draw = draw }; accounts = now (accounts .entry); shorts = now (shorts .entry) }) (answerOf r) (now (amounts .entry)) (now (amounts .exit)) ⌝ }
+    ensures { λ r. ⌜ ((codes : List ℕ) → AllocatingCall (record { terms = record { method = Method·.Lottery; exercised = exercised; draw = draw }; codes = codes; accounts = now (accounts .entry); shorts = now (shorts .entry) }) (answerOf r) (now (amounts .entry)) (now (amounts .exit))) ⌝ }
 {
     let terms = Terms {
         method: Method::Lottery,
         exercised,
         draw,
     };
-    match judging::judge(terms, accounts, shorts, amounts.len()) {
+    match judging::judge_uncoded(terms, accounts, shorts, amounts.len()) {
         Judged::Refused(refusal) => Answer::Refused(refusal),
         Judged::Accepted(total) => {
             let n = shorts.len();
@@ -79,14 +82,20 @@ fn allocate_lottery(
 }
 
 // Assigns the exercised contracts to the positions, amounts in list order; or the first refusal that applies, and then amounts keeps its elements.
-pub fn allocate(terms: Terms, accounts: &[u32], shorts: &[u32], amounts: &mut [u32]) -> Answer
-    ensures { λ r. ⌜ AllocatingCall (record { terms = terms; accounts = now (accounts .entry); shorts = now (shorts .entry) }) (answerOf r) (now (amounts .entry)) (now (amounts .exit)) ⌝ }
+pub fn allocate(
+    terms: Terms,
+    codes: &[u32],
+    accounts: &[u32],
+    shorts: &[u32],
+    amounts: &mut [u32],
+) -> Answer
+    ensures { λ r. ⌜ AllocatingCall (record { terms = terms; codes = now (codes .entry); accounts = now (accounts .entry); shorts = now (shorts .entry) }) (answerOf r) (now (amounts .entry)) (now (amounts .exit)) ⌝ }
 {
     let method = terms.method;
     let exercised = terms.exercised;
     let draw = terms.draw;
     match method {
-        Method::Wheel => allocate_wheel(exercised, draw, accounts, shorts, amounts),
+        Method::Wheel => allocate_wheel(exercised, draw, codes, accounts, shorts, amounts),
         Method::ProRata => pro_rata::allocate(exercised, draw, accounts, shorts, amounts),
         Method::Lottery => allocate_lottery(exercised, draw, accounts, shorts, amounts),
     }

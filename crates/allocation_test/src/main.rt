@@ -50,17 +50,31 @@ fn print_list(list: &[u32; 8]) {
 }
 
 // Makes a call that is lent the first room elements of the output, and prints all of them.
-fn show(label: &[u8], terms: Terms, accounts: &[u32], shorts: &[u32], room: usize)
+fn show_coded(
+    label: &[u8],
+    terms: Terms,
+    codes: &[u32],
+    accounts: &[u32],
+    shorts: &[u32],
+    room: usize,
+)
     requires { ⌜ room ≤ 8 ⌝ }
 {
     let mut amounts = [7u32; 8];
     print(label);
     print(b":");
-    let answer = allocate(terms, accounts, shorts, &mut amounts[..room]);
+    let answer = allocate(terms, codes, accounts, shorts, &mut amounts[..room]);
     print_answer(answer);
     print(b" :");
     print_list(&amounts);
     print(b"\n");
+}
+
+// The same of a list whose codes are its accounts.
+fn show(label: &[u8], terms: Terms, accounts: &[u32], shorts: &[u32], room: usize)
+    requires { ⌜ room ≤ 8 ⌝ }
+{
+    show_coded(label, terms, accounts, accounts, shorts, room);
 }
 
 fn terms(method: Method, exercised: u32, draw: u32) -> Terms {
@@ -267,6 +281,98 @@ fn draws() {
     lottery(b"10, L, draw above 10000", &[1, 2], &[30, 6], 35, 10001);
 }
 
+// A list whose third position has a late code and a low account, under each method.
+fn late_codes() {
+    let codes = [10, 20, 30];
+    let accounts = [500, 700, 100];
+    let shorts = [60, 200, 95];
+    show_coded(
+        b"A by codes",
+        terms(Method::Wheel, 175, 1),
+        &codes,
+        &accounts,
+        &shorts,
+        8,
+    );
+    show_coded(
+        b"A by codes, P",
+        terms(Method::ProRata, 175, 1),
+        &codes,
+        &accounts,
+        &shorts,
+        8,
+    );
+    show_coded(
+        b"A by codes, L",
+        terms(Method::Lottery, 175, 1),
+        &codes,
+        &accounts,
+        &shorts,
+        8,
+    );
+}
+
+// A call under W by codes, with S = 1 and draw 1.
+fn coded(label: &[u8], codes: &[u32], accounts: &[u32], shorts: &[u32]) {
+    show_coded(
+        label,
+        terms(Method::Wheel, 1, 1),
+        codes,
+        accounts,
+        shorts,
+        8,
+    );
+}
+
+// Codes and accounts that W refuses.
+fn codes() {
+    coded(b"5, code 0", &[0, 1], &[1, 2], &[1, 1]);
+    coded(b"5, code twice", &[1, 1], &[1, 2], &[1, 1]);
+    coded(b"5, code below", &[2, 1], &[1, 2], &[1, 1]);
+    coded(b"5 before 19", &[1, 1], &[1, 1], &[1, 1]);
+    coded(b"19, account 0", &[1, 2], &[0, 1], &[1, 1]);
+    coded(b"19, account twice", &[1, 2], &[1, 1], &[1, 1]);
+    coded(
+        b"19, account twice, far apart",
+        &[1, 2, 3, 4],
+        &[9, 7, 8, 9],
+        &[1, 1, 1, 1],
+    );
+    coded(b"19 before 6", &[1, 2], &[1, 1], &[1, 0]);
+    coded(b"19 before 7", &[1, 2], &[1, 1], &[1, 10_000_000]);
+    coded(b"6 before 19", &[1, 2], &[1, 1], &[0, 1]);
+    coded(b"1, codes", &[1], &[1, 2], &[1, 1]);
+    coded(b"1, more codes", &[1, 2, 3], &[1, 2], &[1, 1]);
+}
+
+// Codes that P and L do not look at.
+fn unseen_codes() {
+    show_coded(
+        b"F, codes 0",
+        terms(Method::ProRata, 4, 0),
+        &[0, 0, 0],
+        &[1, 2, 3],
+        &[5, 3, 2],
+        8,
+    );
+    show_coded(
+        b"F, no codes",
+        terms(Method::ProRata, 4, 0),
+        &[],
+        &[1, 2, 3],
+        &[5, 3, 2],
+        8,
+    );
+    show_coded(
+        b"M, one code",
+        terms(Method::Lottery, 13, 4855),
+        &[9],
+        &[1, 2, 3, 4, 5],
+        &[5, 8, 2, 10, 11],
+        8,
+    );
+}
+
 // What judging answers, to the end of the line.
 fn print_judged(judged: Judged) {
     match judged {
@@ -279,18 +385,25 @@ fn print_judged(judged: Judged) {
     print(b"\n");
 }
 
-// Judges a list alone.
+// Judges a list alone, by its accounts.
 fn show_list(label: &[u8], accounts: &[u32], shorts: &[u32]) {
     print(label);
     print(b":");
-    print_judged(judge_list(accounts, shorts));
+    print_judged(judge_list(Method::ProRata, &[], accounts, shorts));
+}
+
+// Judges a list alone, by its codes.
+fn show_codes(label: &[u8], codes: &[u32], accounts: &[u32], shorts: &[u32]) {
+    print(label);
+    print(b":");
+    print_judged(judge_list(Method::Wheel, codes, accounts, shorts));
 }
 
 // Judges a whole call.
 fn show_judged(label: &[u8], terms: Terms, accounts: &[u32], shorts: &[u32], room: usize) {
     print(label);
     print(b":");
-    print_judged(judge(terms, accounts, shorts, room));
+    print_judged(judge(terms, accounts, accounts, shorts, room));
 }
 
 // Lists judged alone: accepted, and refused by their length.
@@ -313,6 +426,14 @@ fn list_positions() {
     show_list(b"list, 5, account below", &[2, 1], &[1, 1]);
     show_list(b"list, 6", &[1, 2], &[1, 0]);
     show_list(b"list, 7", &[1, 2], &[10_000_000, 1]);
+}
+
+// Lists judged by their codes.
+fn list_codes() {
+    show_codes(b"codes", &[1, 2, 3], &[3, 1, 2], &[5, 3, 2]);
+    show_codes(b"codes, 1", &[1, 2], &[3, 1, 2], &[5, 3, 2]);
+    show_codes(b"codes, 5", &[1, 3, 2], &[3, 1, 2], &[5, 3, 2]);
+    show_codes(b"codes, 19", &[1, 2, 3], &[3, 1, 3], &[5, 3, 2]);
 }
 
 // The same list judged with a call and no output, with room for it, and with an S and a draw that refuse.
@@ -375,7 +496,11 @@ fn main() {
     shorts();
     exercised();
     draws();
+    late_codes();
+    codes();
+    unseen_codes();
     lists();
     list_positions();
+    list_codes();
     judged();
 }

@@ -7,14 +7,14 @@ use Rattle.series.specs.Sums.{bit, listed}
 use Rattle.series.specs.Places.{total, next, run, within, marked, before, last, amounts}
 use Rattle.series.specs.Wheel.{wheel}
 use Rattle.series.specs.Lottery.{startingPlace, lottery, unstarted, lotteryAmounts}
-use Rattle.series.specs.Refusals.{first, lengthRows, roomRows, positionRows, exercisedRows, outside, undrawn, drawRows, thenDrawRows, listRows, rows, verdict}
+use Rattle.series.specs.Refusals.{first, lengthRows, roomRows, standsIn, repeated, positionRows, exercisedRows, outside, undrawn, drawRows, thenDrawRows, listRows, rows, verdict}
 use Rattle.series.specs.Call.{assigned}
 use Rattle.series_text.specs.Numbers.{digit, digits, spelled, amountFrom, amount, numeral, number, decimalIn, decimal}
 use Rattle.series_text.specs.Fields.{Text, ends, field, past, fieldBy, endBefore, readFields, writeNumber}
 use Rattle.series_text.specs.Rows.{numbers, readRow, readRows, writeRow, writeRows, rowsOf, column}
 use Rattle.series_text.specs.Names.{namesLine, afterLine, headingOr, readNames}
 use Rattle.series_text.specs.Letters.{letter, methodBy, methodOf}
-use Rattle.series_text.specs.Text.{readTerms, readHead, readText}
+use Rattle.series_text.specs.Text.{readTerms, readHead, readPositions, readText}
 use Rattle.assignment_text.specs.Printed.{refusedLines, assignedLines, seriesOrRefusal, textOrRefusal, linesFor, printed}
 
 -- a text, and what is printed for it
@@ -51,11 +51,21 @@ cases =
     prints "method,exercised,draw\nW,12,1\naccount,short\n0000000007,5\n7,8\n" "refused\n5\n" ∷
     prints "method,exercised,draw\nP,12,0\naccount,short\n0002,5\n1,8\n" "refused\n5\n" ∷
     prints "method,exercised,draw\nL,12,4855\naccount,short\n00000000001,5\n2,8\n" "refused\n13\n" ∷
+    -- codes: under W accounts are printed in code order, under P and L they must rise; codes that are the accounts
+    prints "method,exercised,draw\nW,13,0\ncode,account,short\n1,700,5\n3,500,8\n" "account,assigned\n700,5\n500,8\n" ∷
+    prints "method,exercised,draw\nP,13,0\ncode,account,short\n1,700,5\n3,500,8\n" "refused\n5\n" ∷
+    prints "method,exercised,draw\nL,13,0\ncode,account,short\n1,700,5\n3,500,8\n" "refused\n5\n" ∷
+    prints "method,exercised,draw\nL,13,4855\ncode,account,short\n1,1,5\n2,2,8\n3,3,2\n4,4,10\n5,5,11\n" "account,assigned\n1,0\n2,0\n3,0\n4,8\n5,5\n" ∷
+    -- a code that falls, an account twice, two numbers in a line, any code under L
+    prints "method,exercised,draw\nW,13,0\ncode,account,short\n3,500,5\n1,700,8\n" "refused\n5\n" ∷
+    prints "method,exercised,draw\nW,13,0\ncode,account,short\n1,700,5\n3,700,8\n" "refused\n19\n" ∷
+    prints "method,exercised,draw\nW,13,0\ncode,account,short\n1,700,5\n700,8\n" "refused\n13\n" ∷
+    prints "method,exercised,draw\nL,13,0\ncode,account,short\n3,500,5\n0,700,8\n" "account,assigned\n500,5\n700,8\n" ∷
     []
 
 -- the line `unfolding` names every definition that printing computes with
 printing : Text → Text
-unfolding bit listed total next run within marked before last amounts wheel startingPlace lottery unstarted lotteryAmounts first lengthRows roomRows positionRows exercisedRows outside undrawn drawRows thenDrawRows listRows rows verdict assigned digit digits spelled amountFrom amount numeral number decimalIn decimal ends field past fieldBy endBefore readFields writeNumber numbers readRow readRows writeRow writeRows rowsOf column namesLine afterLine headingOr readNames letter methodBy methodOf readTerms readHead readText refusedLines assignedLines seriesOrRefusal textOrRefusal linesFor printed ascii
+unfolding bit listed total next run within marked before last amounts wheel startingPlace lottery unstarted lotteryAmounts first lengthRows roomRows standsIn repeated positionRows exercisedRows outside undrawn drawRows thenDrawRows listRows rows verdict assigned digit digits spelled amountFrom amount numeral number decimalIn decimal ends field past fieldBy endBefore readFields writeNumber numbers readRow readRows writeRow writeRows rowsOf column namesLine afterLine headingOr readNames letter methodBy methodOf readTerms readHead readPositions readText refusedLines assignedLines seriesOrRefusal textOrRefusal linesFor printed ascii
 printing s = printed s
 
 pub known : map (λ c. printed (c .input)) cases ≡ map (λ c. c .output) cases

@@ -28,7 +28,7 @@ use Rattle.series_text.specs.Fields.{Text}
 use Rattle.series_text.specs.Rows.{writeRow, writeRows, rowsOf}
 use Rattle.series_text.specs.Text.{MOST_LINES, readText}
 use Rattle.text_writing.specs.Answers.{writingOf}
-use Rattle.series_text.specs.Calls.{lengthOf, evenly, lineCount, linesInto, tableInto, noteInto}
+use Rattle.series_text.specs.Calls.{lengthOf, evenly, lineCount, headAndLines, linesInto, tableInto, noteInto}
 use Rattle.text_writing.specs.declared.Writing.{Writing}
 use Rattle.assignment_text.specs.Printed.{refusedLines, assignedLines, seriesOrRefusal, textOrRefusal, linesFor, printed}
 use Rattle.assignment_text.specs.Responses.{Printing, responseOf, printInto, Responds}
@@ -72,11 +72,11 @@ module _ (v : ℕ) (s old new : Text) (w : Writing) (hands : writingOf w ≡ len
   print-all r n e is = record { hands = is ∙ all-is (ltb (length old) (length s)) s n v (ap writingOf (sym e) ∙ hands); output = output-is }
 
 pub note-is : (n room : ℕ) → noteInto (ascii "refused\n") n room ≡ textInto (refusedLines n) room
-unfolding noteInto linesInto evenly lineCount refusedLines rowsOf listed writeRows
+unfolding noteInto linesInto headAndLines evenly lineCount refusedLines rowsOf listed writeRows
 note-is n room = rw append-nil refl
 
 pub table-is : (accounts amounts : List ℕ) (room : ℕ) → length accounts ≡ length amounts → length accounts ≤ MOST_LINES → tableInto (ascii "account,assigned\n") accounts amounts room ≡ textInto (assignedLines accounts amounts) room
-unfolding tableInto linesInto evenly lineCount assignedLines
+unfolding tableInto linesInto headAndLines evenly lineCount assignedLines
 table-is accounts amounts room same few =
     rw (eq-eqb (length accounts) (length accounts) refl, eq-eqb (length amounts) (length accounts) (sym same), le-ltb MOST_LINES (length accounts) few)
 

@@ -14,27 +14,24 @@ use Rattle.series.proofs.ResultLaws.{never, value-is}
 use Rattle.series_text.specs.Fields.{Text}
 use Rattle.series_text.specs.Text.{MOST_LINES, readText}
 use Rattle.series_text.specs.Calls.{Handed, readInto, handed}
+use Rattle.series_text.proofs.RoundTrip.{Lists}
 use Rattle.series_text.proofs.ShortestText.{text-is}
 
 -- the lists of a series that was read: of one length, and at most 1,024 positions
-pub record ReadLists (t : Series) : Type 0 where
-  pub same : length (t .shorts) ≡ length (t .accounts)
-  pub few : length (t .accounts) ≤ MOST_LINES
+pub few-positions : (s : Text) (t : Series) → readText s ≡ value t → Lists t
+few-positions s t e = text-is s t e .spells .lists
 
-pub few-positions : (s : Text) (t : Series) → readText s ≡ value t → ReadLists t
-few-positions s t e = let is = text-is s t e in record { same = is .spells .same; few = is .spells .few }
-
--- the lists have lengths a and h
-module _ (s : Text) (a h : ℕ) (room-a : MOST_LINES ≤ a) (room-h : MOST_LINES ≤ h) where
+-- the lists have lengths c, a and h
+module _ (s : Text) (c a h : ℕ) (room-c : MOST_LINES ≤ c) (room-a : MOST_LINES ≤ a) (room-h : MOST_LINES ≤ h) where
   -- 4 is never met
-  read-into : (r : Result Series) → readText s ≡ r → readInto s a h ≡ r
+  read-into : (r : Result Series) → readText s ≡ r → readInto s c a h ≡ r
   unfolding readInto
   read-into (refused n) e = rw e
   read-into (value t) e =
       let few = few-positions s t e .few in
-      rw (e, le-ltb a (length (t .accounts)) (omega arith), le-ltb h (length (t .accounts)) (omega arith))
+      rw (e, le-ltb c (length (t .accounts)) (omega arith), le-ltb a (length (t .accounts)) (omega arith), le-ltb h (length (t .accounts)) (omega arith))
 
-  pub read-refused : (n : ℕ) → refused n ≡ handed (readInto s a h) → readText s ≡ refused n
+  pub read-refused : (n : ℕ) → refused n ≡ handed (readInto s c a h) → readText s ≡ refused n
   unfolding handed
   read-refused n e = go (readText s) refl
     where
@@ -45,20 +42,21 @@ module _ (s : Text) (a h : ℕ) (room-a : MOST_LINES ≤ a) (room-h : MOST_LINES
           f ∙ ap refused same
       go (value x) f = absurd (never n _ (e ∙ ap handed (read-into (value x) f)))
 
-  -- the series whose positions stand first in the two lists
-  pub read-series : (t : Terms) (n : ℕ) (A H A′ H′ : List ℕ) → value (record { terms = t; positions = n }) ≡ handed (readInto s a h)
-      → A′ ≡ after (readInto s a h) (λ x. onto (x .accounts) A) A → H′ ≡ after (readInto s a h) (λ x. onto (x .shorts) H) H
-      → (n ≤ MOST_LINES) × (readText s ≡ value (record { terms = t; accounts = take n A′; shorts = take n H′ }))
+  -- the series whose positions stand first in the three lists
+  pub read-series : (t : Terms) (n : ℕ) (C A H C′ A′ H′ : List ℕ) → value (record { terms = t; positions = n }) ≡ handed (readInto s c a h)
+      → C′ ≡ after (readInto s c a h) (λ x. onto (x .codes) C) C → A′ ≡ after (readInto s c a h) (λ x. onto (x .accounts) A) A → H′ ≡ after (readInto s c a h) (λ x. onto (x .shorts) H) H
+      → (n ≤ MOST_LINES) × (readText s ≡ value (record { terms = t; codes = take n C′; accounts = take n A′; shorts = take n H′ }))
   unfolding handed onto
-  read-series t n A H A′ H′ e ea eh = go (readText s) refl
+  read-series t n C A H C′ A′ H′ e ec ea eh = go (readText s) refl
     where
-      go : (r : Result Series) → readText s ≡ r → (n ≤ MOST_LINES) × (readText s ≡ value (record { terms = t; accounts = take n A′; shorts = take n H′ }))
+      go : (r : Result Series) → readText s ≡ r → (n ≤ MOST_LINES) × (readText s ≡ value (record { terms = t; codes = take n C′; accounts = take n A′; shorts = take n H′ }))
       go (refused k) f = absurd (never k _ (sym (e ∙ ap handed (read-into (refused k) f))))
       go (value x) f =
           let both : _≡_ {A = Handed} (record { terms = t; positions = n }) (record { terms = x .terms; positions = length (x .accounts) }) = value-is (e ∙ ap handed (read-into (value x) f)) in
           let terms : t ≡ x .terms = ap (λ (y : Handed). y .terms) both in
           let count : n ≡ length (x .accounts) = ap (λ (y : Handed). y .positions) both in
           let lists = few-positions s x f in
+          let codes : take n C′ ≡ x .codes = rw (ec, read-into (value x) f) (take-at (x .codes) _ n (lists .codes ∙ sym count)) in
           let accounts : take n A′ ≡ x .accounts = rw (ea, read-into (value x) f) (take-at (x .accounts) _ n (sym count)) in
-          let shorts : take n H′ ≡ x .shorts = rw (eh, read-into (value x) f) (take-at (x .shorts) _ n (lists .same ∙ sym count)) in
-          (omega (arith, lists .few, count), f ∙ ap value (sym (rw (accounts, shorts, terms))))
+          let shorts : take n H′ ≡ x .shorts = rw (eh, read-into (value x) f) (take-at (x .shorts) _ n (lists .shorts ∙ sym count)) in
+          (omega (arith, lists .few, count), f ∙ ap value (sym (rw (codes, accounts, shorts, terms))))

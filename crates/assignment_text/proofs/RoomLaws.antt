@@ -22,7 +22,7 @@ use Rattle.series_text.proofs.LengthLaws.{rows-room}
 use Rattle.assignment_text.specs.Printed.{refusedLines, assignedLines, seriesOrRefusal, textOrRefusal, linesFor, printed, MOST_PRINTED}
 use Rattle.assignment_text.specs.Responses.{Printing, responseOf, printInto, Responds, Whole}
 use Rattle.assignment_text.specs.declared.Response.{Response}
-use Rattle.assignment_text.proofs.ReadingLaws.{ReadLists, few-positions}
+use Rattle.assignment_text.proofs.ReadingLaws.{few-positions}
 
 -- so many bytes are at least one and at most what can be printed
 pub record Printable (n : ℕ) : Type 0 where

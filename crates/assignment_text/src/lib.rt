@@ -50,15 +50,16 @@ fn print(accounts: &[u32], amounts: &[u32], output: &mut [u8]) -> Response
 // Assigns a series of at most 1,024 positions, and prints the amounts or the refusal.
 fn assign(
     terms: Terms,
+    codes: &[u32],
     accounts: &[u32],
     shorts: &[u32],
     amounts: &mut [u32],
     output: &mut [u8],
 ) -> Response
     requires { ⌜ Lists (now accounts) (now shorts) (now amounts) ⌝ }
-    ensures { λ r. ⌜ Responds r (linesFor (seriesOrRefusal (record { terms = terms; accounts = now (accounts .entry); shorts = now (shorts .entry) }))) (status (seriesOrRefusal (record { terms = terms; accounts = now (accounts .entry); shorts = now (shorts .entry) }))) (now (output .entry)) (now (output .exit)) ⌝ }
+    ensures { λ r. ⌜ Responds r (linesFor (seriesOrRefusal (record { terms = terms; codes = now (codes .entry); accounts = now (accounts .entry); shorts = now (shorts .entry) }))) (status (seriesOrRefusal (record { terms = terms; codes = now (codes .entry); accounts = now (accounts .entry); shorts = now (shorts .entry) }))) (now (output .entry)) (now (output .exit)) ⌝ }
 {
-    let answer = allocation::allocate(terms, accounts, shorts, amounts);
+    let answer = allocation::allocate(terms, codes, accounts, shorts, amounts);
     let Answer::Refused(refusal) = answer else {
         return print(accounts, amounts, output);
     };
@@ -69,13 +70,15 @@ fn assign(
 pub fn respond(text: &[u8], output: &mut [u8]) -> Response
     ensures { λ r. ⌜ Responds r (printed (now (text .entry))) (status (textOrRefusal (now (text .entry)))) (now (output .entry)) (now (output .exit)) ⌝ }
 {
+    let mut codes = [0u32; 1024];
     let mut accounts = [0u32; 1024];
     let mut shorts = [0u32; 1024];
     let mut amounts = [0u32; 1024];
-    match series_text::read(text, &mut accounts, &mut shorts) {
+    match series_text::read(text, &mut codes, &mut accounts, &mut shorts) {
         Reading::Refused(refusal) => refuse(refusal, output),
         Reading::Series { terms, positions } => assign(
             terms,
+            &codes[..positions],
             &accounts[..positions],
             &shorts[..positions],
             &mut amounts[..positions],

@@ -33,33 +33,33 @@ unfolding lengthOf
 by-length (refused k) w old new n ew en = rw ew (record { answers = refl; writes = en; hands-length = refl })
 by-length (value t) w old new n ew en = rw ew (record { answers = refl; writes = en; hands-length = refl })
 
-module _ (l S draw : ℕ) (accounts shorts : List ℕ) where
-  by-unknown : refused 14 ≡ methodBy l → seriesBy l S draw accounts shorts ≡ refused 14
+module _ (l S draw : ℕ) (codes accounts shorts : List ℕ) where
+  by-unknown : refused 14 ≡ methodBy l → seriesBy l S draw codes accounts shorts ≡ refused 14
   unfolding seriesBy
   by-unknown e = rw (← e)
 
-  by-known : (m : Method) → value m ≡ methodBy l → seriesBy l S draw accounts shorts ≡ value (record { terms = termsOf m S draw; accounts = accounts; shorts = shorts })
+  by-known : (m : Method) → value m ≡ methodBy l → seriesBy l S draw codes accounts shorts ≡ value (record { terms = termsOf m S draw; codes = codes; accounts = accounts; shorts = shorts })
   unfolding seriesBy
   by-known m e = rw (← e)
 
-  pub allocate-unknown : refused 14 ≡ methodBy l → (old : List ℕ) (T f : ℕ) → Allocates (seriesBy l S draw accounts shorts) 14 old old (record { old = T; new = T }) (record { old = f; new = f })
+  pub allocate-unknown : refused 14 ≡ methodBy l → (old : List ℕ) (T f : ℕ) → Allocates (seriesBy l S draw codes accounts shorts) 14 old old (record { old = T; new = T }) (record { old = f; new = f })
   unfolding called
   allocate-unknown e old T f = rw (by-unknown e) (record { answers = refl; writes = refl; hands-total = refl; hands-further = refl })
 
-  pub allocate-known : (m : Method) → value m ≡ methodBy l → (t : Terms) → t ≡ termsOf m S draw → (a : Result Allocation) (old new : List ℕ) (T f : ℕ) → a ≡ answer (record { terms = t; accounts = accounts; shorts = shorts }) (length old) → new ≡ output (record { terms = t; accounts = accounts; shorts = shorts }) old
-      → Allocates (seriesBy l S draw accounts shorts) (status a) old new (record { old = T; new = after a (λ x. x .total) T }) (record { old = f; new = after a (λ x. handedBack (x .further)) f })
+  pub allocate-known : (m : Method) → value m ≡ methodBy l → (t : Terms) → t ≡ termsOf m S draw → (a : Result Allocation) (old new : List ℕ) (T f : ℕ) → a ≡ answer (record { terms = t; codes = codes; accounts = accounts; shorts = shorts }) (length old) → new ≡ output (record { terms = t; codes = codes; accounts = accounts; shorts = shorts }) old
+      → Allocates (seriesBy l S draw codes accounts shorts) (status a) old new (record { old = T; new = after a (λ x. x .total) T }) (record { old = f; new = after a (λ x. handedBack (x .further)) f })
   unfolding called
   allocate-known m e t et a old new T f ea en =
       rw (by-known m e, ← et) (record { answers = ap status ea; writes = en; hands-total = ap (λ r. after r (λ x. x .total) T) ea; hands-further = ap (λ r. after r (λ x. handedBack (x .further)) f) ea })
 
-  pub write-unknown : refused 14 ≡ methodBy l → (old : Text) (n : ℕ) → Writes (writtenBy (seriesBy l S draw accounts shorts) (length old)) 14 old old (record { old = n; new = n })
+  pub write-unknown : refused 14 ≡ methodBy l → (old : Text) (n : ℕ) → Writes (writtenBy (seriesBy l S draw codes accounts shorts) (length old)) 14 old old (record { old = n; new = n })
   unfolding writtenBy
   write-unknown e old n = rw (by-unknown e) (record { answers = refl; writes = refl; hands-length = refl })
 
-  pub write-known : (m : Method) → value m ≡ methodBy l → (t : Terms) → t ≡ termsOf m S draw → (w : Result ℕ) (old new : Text) (n : ℕ) → w ≡ lengthOf (writeInto (record { terms = t; accounts = accounts; shorts = shorts }) (length old)) → new ≡ after (writeInto (record { terms = t; accounts = accounts; shorts = shorts }) (length old)) (λ s. onto s old) old
-      → Writes (writtenBy (seriesBy l S draw accounts shorts) (length old)) (status w) old new (record { old = n; new = after w (λ k. k) n })
+  pub write-known : (m : Method) → value m ≡ methodBy l → (t : Terms) → t ≡ termsOf m S draw → (w : Result ℕ) (old new : Text) (n : ℕ) → w ≡ lengthOf (writeInto (record { terms = t; codes = codes; accounts = accounts; shorts = shorts }) (length old)) → new ≡ after (writeInto (record { terms = t; codes = codes; accounts = accounts; shorts = shorts }) (length old)) (λ s. onto s old) old
+      → Writes (writtenBy (seriesBy l S draw codes accounts shorts) (length old)) (status w) old new (record { old = n; new = after w (λ k. k) n })
   unfolding writtenBy
-  write-known m e t et w old new n ew en = rw (by-known m e, ← et) (by-length (writeInto (record { terms = t; accounts = accounts; shorts = shorts }) (length old)) w old new n ew en)
+  write-known m e t et w old new n ew en = rw (by-known m e, ← et) (by-length (writeInto (record { terms = t; codes = codes; accounts = accounts; shorts = shorts }) (length old)) w old new n ew en)
 
 -- what reading hands back
 pub read-hands : (s : Result Series) (h : Result Handed) (l S d p : ℕ) → h ≡ handed s

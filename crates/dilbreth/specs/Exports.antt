@@ -15,10 +15,10 @@ use Rattle.series_text.specs.Calls.{readInto, writeInto}
 use Rattle.assignment_text.specs.Printed.{printed}
 
 -- the series whose method comes as its letter; any other byte is 14 before all other refusals
-unfoldable pub seriesBy : ℕ → ℕ → ℕ → List ℕ → List ℕ → Result Series
-seriesBy l S draw accounts shorts = do
+unfoldable pub seriesBy : ℕ → ℕ → ℕ → List ℕ → List ℕ → List ℕ → Result Series
+seriesBy l S draw codes accounts shorts = do
   m ← methodBy l
-  value (record { terms = record { method = m; exercised = record { 0 = S }; draw = draw }; accounts = accounts; shorts = shorts })
+  value (record { terms = record { method = m; exercised = record { 0 = S }; draw = draw }; codes = codes; accounts = accounts; shorts = shorts })
 
 -- the allocating call's answer, with an output of length room
 unfoldable pub called : Result Series → ℕ → Result Allocation

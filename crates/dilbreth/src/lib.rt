@@ -32,6 +32,7 @@ fn terms_of(method: Method, exercised: u32, draw: u32) -> Terms
 #[no_mangle]
 pub extern "C" fn dilbreth_allocate(
     method: u8,
+    codes: &[u32],
     accounts: &[u32],
     shorts: &[u32],
     exercised: u32,
@@ -40,13 +41,13 @@ pub extern "C" fn dilbreth_allocate(
     total: &mut u32,
     further: &mut u32,
 ) -> u32
-    ensures { λ r. ⌜ Allocates (seriesBy method exercised draw (now (accounts .entry)) (now (shorts .entry))) r (now (amounts .entry)) (now (amounts .exit)) (record { old = now (total .entry); new = now (total .exit) }) (record { old = now (further .entry); new = now (further .exit) }) ⌝ }
+    ensures { λ r. ⌜ Allocates (seriesBy method exercised draw (now (codes .entry)) (now (accounts .entry)) (now (shorts .entry))) r (now (amounts .entry)) (now (amounts .exit)) (record { old = now (total .entry); new = now (total .exit) }) (record { old = now (further .entry); new = now (further .exit) }) ⌝ }
 {
     let Named::Method(named) = series_text::letters::method_by(method) else {
         return 14;
     };
     let terms = terms_of(named, exercised, draw);
-    match allocation::allocate(terms, accounts, shorts, amounts) {
+    match allocation::allocate(terms, codes, accounts, shorts, amounts) {
         Answer::Wheel { total: sum, blocks } => {
             *total = sum.0;
             *further = blocks;
@@ -74,10 +75,11 @@ pub extern "C" fn dilbreth_allocate(
     }
 }
 
-// Reads the text of a series into two lists.
+// Reads the text of a series into three lists.
 #[no_mangle]
 pub extern "C" fn dilbreth_read(
     text: &[u8],
+    codes: &mut [u32],
     accounts: &mut [u32],
     shorts: &mut [u32],
     method: &mut u8,
@@ -85,11 +87,12 @@ pub extern "C" fn dilbreth_read(
     draw: &mut u32,
     positions: &mut usize,
 ) -> u32
-    ensures { λ _. ⌜ now (accounts .exit) ≡ after (readInto (now (text .entry)) (length (now (accounts .entry))) (length (now (shorts .entry)))) (λ s. onto (s .accounts) (now (accounts .entry))) (now (accounts .entry)) ⌝ }
-    ensures { λ _. ⌜ now (shorts .exit) ≡ after (readInto (now (text .entry)) (length (now (accounts .entry))) (length (now (shorts .entry)))) (λ s. onto (s .shorts) (now (shorts .entry))) (now (shorts .entry)) ⌝ }
-    ensures { λ r. ⌜ Reads (readInto (now (text .entry)) (length (now (accounts .entry))) (length (now (shorts .entry)))) r (record { old = now (method .entry); new = now (method .exit) }) (record { old = now (exercised .entry); new = now (exercised .exit) }) (record { old = now (draw .entry); new = now (draw .exit) }) (record { old = now (positions .entry); new = now (positions .exit) }) ⌝ }
+    ensures { λ _. ⌜ now (codes .exit) ≡ after (readInto (now (text .entry)) (length (now (codes .entry))) (length (now (accounts .entry))) (length (now (shorts .entry)))) (λ s. onto (s .codes) (now (codes .entry))) (now (codes .entry)) ⌝ }
+    ensures { λ _. ⌜ now (accounts .exit) ≡ after (readInto (now (text .entry)) (length (now (codes .entry))) (length (now (accounts .entry))) (length (now (shorts .entry)))) (λ s. onto (s .accounts) (now (accounts .entry))) (now (accounts .entry)) ⌝ }
+    ensures { λ _. ⌜ now (shorts .exit) ≡ after (readInto (now (text .entry)) (length (now (codes .entry))) (length (now (accounts .entry))) (length (now (shorts .entry)))) (λ s. onto (s .shorts) (now (shorts .entry))) (now (shorts .entry)) ⌝ }
+    ensures { λ r. ⌜ Reads (readInto (now (text .entry)) (length (now (codes .entry))) (length (now (accounts .entry))) (length (now (shorts .entry)))) r (record { old = now (method .entry); new = now (method .exit) }) (record { old = now (exercised .entry); new = now (exercised .exit) }) (record { old = now (draw .entry); new = now (draw .exit) }) (record { old = now (positions .entry); new = now (positions .exit) }) ⌝ }
 {
-    match series_text::read(text, accounts, shorts) {
+    match series_text::read(text, codes, accounts, shorts) {
         Reading::Series {
             terms,
             positions: n,
@@ -111,18 +114,19 @@ pub extern "C" fn dilbreth_write(
     method: u8,
     exercised: u32,
     draw: u32,
+    codes: &[u32],
     accounts: &[u32],
     shorts: &[u32],
     text: &mut [u8],
     written: &mut usize,
 ) -> u32
-    ensures { λ r. ⌜ Writes (writtenBy (seriesBy method exercised draw (now (accounts .entry)) (now (shorts .entry))) (length (now (text .entry)))) r (now (text .entry)) (now (text .exit)) (record { old = now (written .entry); new = now (written .exit) }) ⌝ }
+    ensures { λ r. ⌜ Writes (writtenBy (seriesBy method exercised draw (now (codes .entry)) (now (accounts .entry)) (now (shorts .entry))) (length (now (text .entry)))) r (now (text .entry)) (now (text .exit)) (record { old = now (written .entry); new = now (written .exit) }) ⌝ }
 {
     let Named::Method(named) = series_text::letters::method_by(method) else {
         return 14;
     };
     let terms = terms_of(named, exercised, draw);
-    match text_writing::write(terms, accounts, shorts, text) {
+    match text_writing::write(terms, codes, accounts, shorts, text) {
         Writing::Written(n) => {
             *written = n;
             0

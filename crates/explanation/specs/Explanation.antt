@@ -7,24 +7,25 @@ use Rattle.series.specs.Ascii.{ascii}
 -- the lines of the refusals 1 to 18
 unfoldable pub refusals : List (List ℕ)
 refusals =
-    ascii "accounts and shorts differ in length\n" ∷
+    ascii "codes, accounts and shorts differ in length\n" ∷
     ascii "there are more than 4,096 positions\n" ∷
     ascii "there are no positions\n" ∷
     ascii "an output is too short\n" ∷
-    ascii "an account is 0 or not above the one before it\n" ∷
+    ascii "a code (W) or an account is 0 or does not rise\n" ∷
     ascii "a position has no short contracts\n" ∷
     ascii "the positions hold more than 10,000,000 contracts\n" ∷
     ascii "no contract is exercised\n" ∷
     ascii "more is exercised than the positions hold\n" ∷
     ascii "the draw is outside 1 to T (W) or 1 to 10,000 (L)\n" ∷
-    ascii "the text has more than 32,768 bytes\n" ∷
+    ascii "the text has, or would have, over 32,768 bytes\n" ∷
     ascii "line 1 or line 3 is missing or not exact\n" ∷
     ascii "bad line 2 or position line (number: 1-10 digits)\n" ∷
     ascii "the method is not W, P or L\n" ∷
     ascii "there are more than 1,024 positions in a text\n" ∷
     ascii "a count of the day is above 10,000,000\n" ∷
     ascii "closing purchases exceed short plus opening sales\n" ∷
-    ascii "more is exercised than the day's limit\n" ∷ []
+    ascii "more is exercised than the day's limit\n" ∷
+    ascii "an account is 0 or stands earlier in the list\n" ∷ []
 
 -- the line of any other number
 unfoldable pub noRefusal : List ℕ

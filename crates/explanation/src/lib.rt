@@ -26,17 +26,17 @@ pub fn explain(number: u32, line: &mut [u8]) -> usize
     ensures { λ r. ⌜ r ≤ longest ⌝ }
 {
     match number {
-        1 => put(b"accounts and shorts differ in length\n", line),
+        1 => put(b"codes, accounts and shorts differ in length\n", line),
         2 => put(b"there are more than 4,096 positions\n", line),
         3 => put(b"there are no positions\n", line),
         4 => put(b"an output is too short\n", line),
-        5 => put(b"an account is 0 or not above the one before it\n", line),
+        5 => put(b"a code (W) or an account is 0 or does not rise\n", line),
         6 => put(b"a position has no short contracts\n", line),
         7 => put(b"the positions hold more than 10,000,000 contracts\n", line),
         8 => put(b"no contract is exercised\n", line),
         9 => put(b"more is exercised than the positions hold\n", line),
         10 => put(b"the draw is outside 1 to T (W) or 1 to 10,000 (L)\n", line),
-        11 => put(b"the text has more than 32,768 bytes\n", line),
+        11 => put(b"the text has, or would have, over 32,768 bytes\n", line),
         12 => put(b"line 1 or line 3 is missing or not exact\n", line),
         13 => put(b"bad line 2 or position line (number: 1-10 digits)\n", line),
         14 => put(b"the method is not W, P or L\n", line),
@@ -44,6 +44,7 @@ pub fn explain(number: u32, line: &mut [u8]) -> usize
         16 => put(b"a count of the day is above 10,000,000\n", line),
         17 => put(b"closing purchases exceed short plus opening sales\n", line),
         18 => put(b"more is exercised than the day's limit\n", line),
+        19 => put(b"an account is 0 or stands earlier in the list\n", line),
         _ => put(b"no refusal has this number\n", line),
     }
 }

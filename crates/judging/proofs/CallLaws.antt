@@ -55,12 +55,12 @@ module _ (s : Series) (old : List ℕ) where
     call-allocated a vs done =
         let eT = verdict-total s (length old) T (sym v) in
         kept a (vs ++ drop (length (s .shorts)) old)
-        (rw (← v) (done .answered (s .accounts) ∙ ap (λ x. value (record { method = s .terms .method; total = x; further = further s })) eT))
-        (rw (← v) (ap₂ (λ xs n. xs ++ drop n old) (done .written (s .accounts)) (sym (length-assigned s))))
+        (rw (← v) (done .answered (s .codes) (s .accounts) ∙ ap (λ x. value (record { method = s .terms .method; total = x; further = further s })) eT))
+        (rw (← v) (ap₂ (λ xs n. xs ++ drop n old) (done .written (s .codes) (s .accounts)) (sym (length-assigned s))))
 
 -- the call by the method that the terms name
-pub by-method : (t : Terms) (m : Method) (accounts shorts : List ℕ) (a : Result Allocation) (old new : List ℕ) → t .method ≡ m
-    → AllocatingCall (record { terms = record { method = m; exercised = t .exercised; draw = t .draw }; accounts = accounts; shorts = shorts }) a old new
-    → AllocatingCall (record { terms = t; accounts = accounts; shorts = shorts }) a old new
-by-method t m accounts shorts a old new e =
-    subst (λ (n : Method). AllocatingCall (record { terms = record { method = n; exercised = t .exercised; draw = t .draw }; accounts = accounts; shorts = shorts }) a old new) (sym e)
+pub by-method : (t : Terms) (m : Method) (codes accounts shorts : List ℕ) (a : Result Allocation) (old new : List ℕ) → t .method ≡ m
+    → AllocatingCall (record { terms = record { method = m; exercised = t .exercised; draw = t .draw }; codes = codes; accounts = accounts; shorts = shorts }) a old new
+    → AllocatingCall (record { terms = t; codes = codes; accounts = accounts; shorts = shorts }) a old new
+by-method t m codes accounts shorts a old new e =
+    subst (λ (n : Method). AllocatingCall (record { terms = record { method = n; exercised = t .exercised; draw = t .draw }; codes = codes; accounts = accounts; shorts = shorts }) a old new) (sym e)

@@ -1,15 +1,23 @@
 // Judging a call, in the order of document 01's table: T, or the first refusal that applies.
+mod chains;
+
+use crate::chains::link;
+use crate::chains::stands_earlier;
 use series::Contracts;
 use series::Method;
 use series::Refusal;
 use series::Terms;
 ghost use mathlib.Core.Path.{_≡_};
-ghost use mathlib.Core.Bool.{not};
-ghost use mathlib.Core.List.{_++_};
-ghost use lib.ListN.{length};
+ghost use mathlib.Core.Bool.{not, _||_, cond};
+ghost use mathlib.Core.List.{[], _++_};
+ghost use lib.Dec.{eqb, ltb};
 ghost use Rattle.series.specs.Places.{total as totalOf};
 ghost use Rattle.series.specs.Refusals.{first, positionRows, listRows, exercisedRows, outside, undrawn, drawRows, thenDrawRows, verdict, listVerdict};
-ghost use Rattle.judging.specs.Judged.{judgedOf};
+ghost use Rattle.series.specs.Series.{orderedBy};
+ghost use Rattle.series.specs.Answers.{numberOf};
+ghost use Rattle.series.specs.declared.Method.{Method as Method·};
+ghost use Rattle.judging.specs.Judged.{judgedOf, walkTells, fallsOnly, fallsLate, EvenList};
+ghost use Rattle.judging.specs.Chains.{Linked};
 
 // An accepted list with its total T, or the first refusal that applies.
 pub enum Judged {
@@ -17,57 +25,168 @@ pub enum Judged {
     Refused(Refusal),
 }
 
-// The list, each position in turn.
-fn judge_positions(accounts: &[u32], shorts: &[u32]) -> Judged
-    requires { ⌜ length (now accounts) ≡ length (now shorts) ⌝ }
-    ensures { λ r. ⌜ judgedOf r ≡ first (positionRows 0 0 (now (accounts .entry)) (now (shorts .entry))) (totalOf (now (shorts .entry))) ⌝ }
-{
-    let mut before = 0;
-    let mut sum = 0;
-    let mut i = 0;
-    while i < shorts.len() {
-        let account = accounts[i];
-        let count = shorts[i];
-        if account <= before {
-            return Judged::Refused(Refusal::AccountOrder);
-        }
-        if count == 0 {
-            return Judged::Refused(Refusal::NoShorts);
-        }
-        if 10_000_000 - sum < count {
-            return Judged::Refused(Refusal::TotalTooLarge);
-        }
-        before = account;
-        sum += count;
-        i += 1;
-    }
-    Judged::Accepted(Contracts(sum))
+// What a walk over the positions answers while their accounts rise.
+enum Walk {
+    Judged(Judged),
+    // An account is not above the one before it.
+    Falls,
 }
 
-// The list: its length, also against the length of the output, and then each position.
-fn judge_rows(accounts: &[u32], shorts: &[u32], room: usize) -> Judged
-    ensures { λ r. ⌜ judgedOf r ≡ first (listRows (now (accounts .entry)) (now (shorts .entry)) room) (totalOf (now (shorts .entry))) ⌝ }
+// Whether shorts are 0 or more than are left of the most: one test for 6 and 7, which costs less than two.
+fn is_refused(count: u32, left: u32) -> bool
+    ensures { λ r. ⌜ r ≡ (eqb count 0 || ltb left count) ⌝ }
+{
+    (count == 0) | (left < count)
+}
+
+// The refusal of shorts that are 0 or too many.
+fn refuse_shorts(count: u32) -> Refusal
+    ensures { λ r. ⌜ numberOf r ≡ cond (eqb count 0) 6 7 ⌝ }
+{
+    if count == 0 {
+        return Refusal::NoShorts;
+    }
+    Refusal::TotalTooLarge
+}
+
+// The list, each position in turn, while its accounts rise too.
+fn judge_rising(order: &[u32], accounts: &[u32], shorts: &[u32]) -> Walk
+    requires { ⌜ EvenList (now order) (now accounts) (now shorts) ⌝ }
+    ensures { λ r. ⌜ ((m : Method·) → walkTells r (first (positionRows m [] 0 0 (now (order .entry)) (now (accounts .entry)) (now (shorts .entry))) (totalOf (now (shorts .entry))))) ⌝ }
+    ensures { λ r. ⌜ fallsOnly r (now (order .entry)) (now (accounts .entry)) ⌝ }
+{
+    let mut before = 0;
+    let mut highest = 0;
+    let mut left = 10_000_000;
+    let mut i = 0;
+    while i < shorts.len() {
+        let number = order[i];
+        let account = accounts[i];
+        let count = shorts[i];
+        if number <= before {
+            return Walk::Judged(Judged::Refused(Refusal::OutOfOrder));
+        }
+        if account <= highest {
+            return Walk::Falls;
+        }
+        if is_refused(count, left) {
+            return Walk::Judged(Judged::Refused(refuse_shorts(count)));
+        }
+        before = number;
+        highest = account;
+        left -= count;
+        i += 1;
+    }
+    Walk::Judged(Judged::Accepted(Contracts(10_000_000 - left)))
+}
+
+// The list under W, each position in turn, its accounts in any order: they are looked up in chains.
+fn judge_chained(
+    codes: &[u32],
+    accounts: &[u32],
+    shorts: &[u32],
+    head: &mut [u16; 4096],
+    next: &mut [u16; 4096],
+) -> Judged
+    requires { ⌜ EvenList (now codes) (now accounts) (now shorts) × Linked (now accounts) (now head) (now next) 0 ⌝ }
+    ensures { λ r. ⌜ judgedOf r ≡ first (positionRows Method·.Wheel [] 0 0 (now (codes .entry)) (now (accounts .entry)) (now (shorts .entry))) (totalOf (now (shorts .entry))) ⌝ }
+{
+    let mut before = 0;
+    let mut left = 10_000_000;
+    let mut i = 0;
+    while i < shorts.len() {
+        let code = codes[i];
+        let count = shorts[i];
+        if code <= before {
+            return Judged::Refused(Refusal::OutOfOrder);
+        }
+        if accounts[i] == 0 {
+            return Judged::Refused(Refusal::AccountRepeated);
+        }
+        if stands_earlier(accounts, i, head, next) {
+            return Judged::Refused(Refusal::AccountRepeated);
+        }
+        if is_refused(count, left) {
+            return Judged::Refused(refuse_shorts(count));
+        }
+        link(accounts, i, head, next);
+        before = code;
+        left -= count;
+        i += 1;
+    }
+    Judged::Accepted(Contracts(10_000_000 - left))
+}
+
+// The same, with chains of its own.
+fn judge_distinct(codes: &[u32], accounts: &[u32], shorts: &[u32]) -> Judged
+    requires { ⌜ EvenList (now codes) (now accounts) (now shorts) ⌝ }
+    ensures { λ r. ⌜ judgedOf r ≡ first (positionRows Method·.Wheel [] 0 0 (now (codes .entry)) (now (accounts .entry)) (now (shorts .entry))) (totalOf (now (shorts .entry))) ⌝ }
+{
+    let mut head = [0u16; 4096];
+    let mut next = [0u16; 4096];
+    judge_chained(codes, accounts, shorts, &mut head, &mut next)
+}
+
+// The list, which rises by `order`: its length, also against the length of the output; then each position, while its accounts rise too.
+fn judge_rows(order: &[u32], accounts: &[u32], shorts: &[u32], room: usize) -> Walk
+    ensures { λ r. ⌜ ((m : Method·) → walkTells r (first (listRows m (now (order .entry)) (now (accounts .entry)) (now (shorts .entry)) room) (totalOf (now (shorts .entry))))) ⌝ }
+    ensures { λ r. ⌜ fallsOnly r (now (order .entry)) (now (accounts .entry)) ⌝ }
+    ensures { λ r. ⌜ fallsLate r (now (order .entry)) (now (accounts .entry)) (now (shorts .entry)) room ⌝ }
 {
     if accounts.len() != shorts.len() {
-        return Judged::Refused(Refusal::LengthsDiffer);
+        return Walk::Judged(Judged::Refused(Refusal::LengthsDiffer));
+    }
+    if order.len() != shorts.len() {
+        return Walk::Judged(Judged::Refused(Refusal::LengthsDiffer));
     }
     if 4096 < shorts.len() {
-        return Judged::Refused(Refusal::TooManyPositions);
+        return Walk::Judged(Judged::Refused(Refusal::TooManyPositions));
     }
     if shorts.len() == 0 {
-        return Judged::Refused(Refusal::NoPositions);
+        return Walk::Judged(Judged::Refused(Refusal::NoPositions));
     }
     if room < shorts.len() {
-        return Judged::Refused(Refusal::OutputTooShort);
+        return Walk::Judged(Judged::Refused(Refusal::OutputTooShort));
     }
-    judge_positions(accounts, shorts)
+    judge_rising(order, accounts, shorts)
+}
+
+// The list under W: it rises by its codes, and its accounts are looked up where they do not rise.
+fn judge_by_code(codes: &[u32], accounts: &[u32], shorts: &[u32], room: usize) -> Judged
+    ensures { λ r. ⌜ judgedOf r ≡ first (listRows Method·.Wheel (now (codes .entry)) (now (accounts .entry)) (now (shorts .entry)) room) (totalOf (now (shorts .entry))) ⌝ }
+{
+    match judge_rows(codes, accounts, shorts, room) {
+        Walk::Judged(judged) => judged,
+        Walk::Falls => judge_distinct(codes, accounts, shorts),
+    }
+}
+
+// The list under P and L: it rises by its accounts, so that none falls without 5. The promise holds for W too, where every code is its account.
+fn judge_by_account(accounts: &[u32], shorts: &[u32], room: usize) -> Judged
+    ensures { λ r. ⌜ ((m : Method·) → judgedOf r ≡ first (listRows m (now (accounts .entry)) (now (accounts .entry)) (now (shorts .entry)) room) (totalOf (now (shorts .entry)))) ⌝ }
+{
+    match judge_rows(accounts, accounts, shorts, room) {
+        Walk::Judged(judged) => judged,
+        Walk::Falls => Judged::Refused(Refusal::OutOfOrder),
+    }
+}
+
+// The list by its method.
+fn judge_by(method: Method, codes: &[u32], accounts: &[u32], shorts: &[u32], room: usize) -> Judged
+    ensures { λ r. ⌜ judgedOf r ≡ first (listRows method (orderedBy method (now (codes .entry)) (now (accounts .entry))) (now (accounts .entry)) (now (shorts .entry)) room) (totalOf (now (shorts .entry))) ⌝ }
+{
+    match method {
+        Method::Wheel => judge_by_code(codes, accounts, shorts, room),
+        Method::ProRata => judge_by_account(accounts, shorts, room),
+        Method::Lottery => judge_by_account(accounts, shorts, room),
+    }
 }
 
 // Judges a list alone, with no output, S or draw.
-pub fn judge_list(accounts: &[u32], shorts: &[u32]) -> Judged
-    ensures { λ r. ⌜ judgedOf r ≡ listVerdict (now (accounts .entry)) (now (shorts .entry)) ⌝ }
+pub fn judge_list(method: Method, codes: &[u32], accounts: &[u32], shorts: &[u32]) -> Judged
+    ensures { λ r. ⌜ judgedOf r ≡ listVerdict method (now (codes .entry)) (now (accounts .entry)) (now (shorts .entry)) ⌝ }
 {
-    judge_rows(accounts, shorts, shorts.len())
+    judge_by(method, codes, accounts, shorts, shorts.len())
 }
 
 // Whether a draw is 1 to most.
@@ -135,11 +254,22 @@ fn judge_terms(terms: Terms, total: Contracts, positions: usize) -> Judged
 }
 
 // Judges a whole call; room is the length of its output.
-pub fn judge(terms: Terms, accounts: &[u32], shorts: &[u32], room: usize) -> Judged
-    ensures { λ r. ⌜ judgedOf r ≡ verdict (record { terms = terms; accounts = now (accounts .entry); shorts = now (shorts .entry) }) room ⌝ }
+pub fn judge(terms: Terms, codes: &[u32], accounts: &[u32], shorts: &[u32], room: usize) -> Judged
+    ensures { λ r. ⌜ judgedOf r ≡ verdict (record { terms = terms; codes = now (codes .entry); accounts = now (accounts .entry); shorts = now (shorts .entry) }) room ⌝ }
 {
-    match judge_rows(accounts, shorts, room) {
+    let method = terms.method;
+    match judge_by(method, codes, accounts, shorts, room) {
         Judged::Refused(refusal) => Judged::Refused(refusal),
         Judged::Accepted(total) => judge_terms(terms, total, shorts.len()),
+    }
+}
+
+// Judges a whole call of a series whose codes are its accounts, or whose method looks at no code.
+pub fn judge_uncoded(terms: Terms, accounts: &[u32], shorts: &[u32], room: usize) -> Judged
+    ensures { λ r. ⌜ judgedOf r ≡ verdict (record { terms = terms; codes = now (accounts .entry); accounts = now (accounts .entry); shorts = now (shorts .entry) }) room ⌝ }
+{
+    match judge_by_account(accounts, shorts, room) {
+        Judged::Refused(refusal) => Judged::Refused(refusal),
+        Judged::Accepted(held) => judge_terms(terms, held, shorts.len()),
     }
 }

@@ -10,7 +10,7 @@ use lib.ListN.{length}
 use borrow.Author.Tests.{ltb-false, eqb-false, eqb-true, not-false}
 use Rattle.series.specs.Results.{value}
 use Rattle.series.specs.Places.{total}
-use Rattle.series.specs.Series.{Series, MOST_POSITIONS, MOST_CONTRACTS, exercised, held, redrawn, byMethod}
+use Rattle.series.specs.Series.{Series, MOST_POSITIONS, MOST_CONTRACTS, method, exercised, held, redrawn, byMethod, order}
 use Rattle.series.specs.Refusals.{Row, _⟶_∣_, NoneApplies, leftAside, aside, lengthRows, roomRows, positionRows, exercisedRows, outside, undrawn, drawRows, thenDrawRows, listRows, rows, Accepted, verdict}
 use Rattle.series.specs.declared.Method.{Method}
 use Rattle.series.specs.declared.Terms.{Terms}
@@ -19,9 +19,15 @@ use Rattle.series.proofs.RowLaws.{value-passed, passed-append}
 pub positive : {n : ℕ} → (n ≡ 0 → ⊥) → 0 < n
 positive {n} h = elim (decLt 0 n) [ yes l ↦ l | no g ↦ absurd (h (omega arith)) ]
 
+-- neither part of a test that fails holds
+pub or-false : (a b : Bool) → (a || b) ≡ false → (a ≡ false) × (b ≡ false)
+or-false false b h = (refl, h)
+or-false true b h = let z : _≡_ {A = ℕ} 0 1 = cc in absurd (omega arith)
+
 -- the facts of an accepted series
 pub record Facts (s : Series) : Type 0 where
   pub lengths : length (s .accounts) ≡ length (s .shorts)
+  pub ordered : length (order s) ≡ length (s .shorts)
   pub few : length (s .shorts) ≤ MOST_POSITIONS
   pub some : 0 < length (s .shorts)
   pub total-some : 0 < held s
@@ -38,11 +44,12 @@ aside-append (x ∷ xs) ys = step (leftAside x) (aside-append xs ys)
     step true h = h
     step false h = ap (x ∷_) h
 
-aside-positions : (before sum : ℕ) (accounts shorts : List ℕ) → aside (positionRows before sum accounts shorts) ≡ positionRows before sum accounts shorts
+aside-positions : (m : Method) (earlier : List ℕ) (before sum : ℕ) (order accounts shorts : List ℕ) → aside (positionRows m earlier before sum order accounts shorts) ≡ positionRows m earlier before sum order accounts shorts
 unfolding aside leftAside positionRows
-aside-positions before sum [] hs = refl
-aside-positions before sum (a ∷ rest) [] = refl
-aside-positions before sum (a ∷ rest) (h ∷ hs) = rw (aside-positions a (sum + h) rest hs)
+aside-positions m earlier before sum [] rest hs = refl
+aside-positions m earlier before sum (k ∷ ks) [] hs = refl
+aside-positions m earlier before sum (k ∷ ks) (a ∷ rest) [] = refl
+aside-positions m earlier before sum (k ∷ ks) (a ∷ rest) (h ∷ hs) = rw (aside-positions m (a ∷ earlier) k (sum + h) ks rest hs)
 
 aside-draw : (t : Terms) (T : ℕ) → aside (drawRows t T) ≡ []
 unfolding drawRows aside leftAside
@@ -62,14 +69,14 @@ aside-then-draw t T n = step (undrawn t T n)
     step false = aside-draw t T
 
 -- the rows that are left: neither the draw nor the room is in them
-aside-rows : (s : Series) (room : ℕ) → aside (rows s room) ≡ lengthRows (s .accounts) (s .shorts) ++ (positionRows 0 0 (s .accounts) (s .shorts) ++ exercisedRows (held s) (exercised s))
+aside-rows : (s : Series) (room : ℕ) → aside (rows s room) ≡ lengthRows (order s) (s .accounts) (s .shorts) ++ (positionRows (method s) [] 0 0 (order s) (s .accounts) (s .shorts) ++ exercisedRows (held s) (exercised s))
 unfolding aside leftAside rows listRows lengthRows roomRows exercisedRows
 aside-rows s room =
-    let list : List Row = positionRows 0 0 (s .accounts) (s .shorts) in
+    let list : List Row = positionRows (method s) [] 0 0 (order s) (s .accounts) (s .shorts) in
     let terms : List Row = exercisedRows (held s) (exercised s) ++ thenDrawRows (s .terms) (held s) (length (s .shorts)) in
-    ap (λ zs. lengthRows (s .accounts) (s .shorts) ++ zs)
+    ap (λ zs. lengthRows (order s) (s .accounts) (s .shorts) ++ zs)
     (aside-append list terms
-    ∙ ap₂ (λ xs ys. xs ++ ys) (aside-positions 0 0 (s .accounts) (s .shorts)) (ap (λ zs. exercisedRows (held s) (exercised s) ++ zs) (aside-then-draw (s .terms) (held s) (length (s .shorts)))))
+    ∙ ap₂ (λ xs ys. xs ++ ys) (aside-positions (method s) [] 0 0 (order s) (s .accounts) (s .shorts)) (ap (λ zs. exercisedRows (held s) (exercised s) ++ zs) (aside-then-draw (s .terms) (held s) (length (s .shorts)))))
 
 -- what is accepted depends on neither the draw nor the room
 pub accepted-any : (s : Series) (d room room2 : ℕ) → Accepted s room → Accepted (redrawn d s) room2
@@ -77,28 +84,39 @@ unfolding Accepted redrawn
 accepted-any s d room room2 ok = subst NoneApplies (aside-rows s room ∙ sym (aside-rows (redrawn d s) room2)) ok
 
 -- positions that no row turns away have a sum of at most 10,000,000
-positions-total : (before sum : ℕ) (accounts shorts : List ℕ) → length accounts ≡ length shorts → sum ≤ MOST_CONTRACTS → NoneApplies (positionRows before sum accounts shorts) → sum + total shorts ≤ MOST_CONTRACTS
+positions-total : (m : Method) (earlier : List ℕ) (before sum : ℕ) (order accounts shorts : List ℕ) → length accounts ≡ length shorts → length order ≡ length shorts → sum ≤ MOST_CONTRACTS
+    → NoneApplies (positionRows m earlier before sum order accounts shorts) → sum + total shorts ≤ MOST_CONTRACTS
 unfolding positionRows total NoneApplies
-positions-total before sum [] [] l s h = omega arith
-positions-total before sum [] (x ∷ hs) l s h = absurd (omega arith)
-positions-total before sum (a ∷ rest) [] l s h = absurd (omega arith)
-positions-total before sum (a ∷ rest) (x ∷ hs) l s h =
-    omega (arith, positions-total a (sum + x) rest hs (omega arith) (ltb-false MOST_CONTRACTS (sum + x) (h .1 .1 .0)) (h .1 .1 .1))
+positions-total m earlier before sum ks rest [] la lk s h = omega arith
+positions-total m earlier before sum [] rest (x ∷ hs) la lk s h = absurd (omega arith)
+positions-total m earlier before sum (k ∷ ks) [] (x ∷ hs) la lk s h = absurd (omega arith)
+positions-total m earlier before sum (k ∷ ks) (a ∷ rest) (x ∷ hs) la lk s h =
+    omega (arith, positions-total m (a ∷ earlier) k (sum + x) ks rest hs (omega arith) (omega arith) (ltb-false MOST_CONTRACTS (sum + x) (h .1 .1 .1 .0)) (h .1 .1 .1 .1))
+
+-- no row of the positions applies to an accepted series
+pub positions-pass : (s : Series) (room : ℕ) → Accepted s room → NoneApplies (positionRows (method s) [] 0 0 (order s) (s .accounts) (s .shorts))
+unfolding Accepted NoneApplies lengthRows
+positions-pass s room ok =
+    let left = subst NoneApplies (aside-rows s room) ok in
+    passed-append (positionRows (method s) [] 0 0 (order s) (s .accounts) (s .shorts)) (exercisedRows (held s) (exercised s)) (left .1 .1 .1) .0
 
 pub accepted-facts : (s : Series) (room : ℕ) → Accepted s room → Facts s
 unfolding Accepted NoneApplies lengthRows exercisedRows
 accepted-facts s room ok =
     let left = subst NoneApplies (aside-rows s room) ok in
-    let list = passed-append (positionRows 0 0 (s .accounts) (s .shorts)) (exercisedRows (held s) (exercised s)) (left .1 .1 .1) in
-    let same : length (s .accounts) ≡ length (s .shorts) = eqb-true _ _ (not-false _ (left .0)) in
+    let list = passed-append (positionRows (method s) [] 0 0 (order s) (s .accounts) (s .shorts)) (exercisedRows (held s) (exercised s)) (left .1 .1 .1) in
+    let even = or-false _ _ (left .0) in
+    let same : length (s .accounts) ≡ length (s .shorts) = eqb-true _ _ (not-false _ (even .0)) in
+    let beside : length (order s) ≡ length (s .shorts) = eqb-true _ _ (not-false _ (even .1)) in
     let some-exercised : 0 < exercised s = positive (eqb-false _ _ (list .1 .0)) in
     let most-exercised : exercised s ≤ held s = ltb-false _ _ (list .1 .1 .0) in
     record {
       lengths = same;
+      ordered = beside;
       few = ltb-false _ _ (left .1 .0);
       some = positive (eqb-false _ _ (left .1 .1 .0));
       total-some = omega arith;
-      total-most = omega (arith, positions-total 0 0 (s .accounts) (s .shorts) same (omega arith) (list .0));
+      total-most = omega (arith, positions-total (method s) [] 0 0 (order s) (s .accounts) (s .shorts) same beside (omega arith) (list .0));
       exercised-some = some-exercised;
       exercised-most = most-exercised;
     }

@@ -6,7 +6,7 @@ use mathlib.Core.List.{List, [], _∷_, _++_, map, append-assoc}
 use native.Mathlib.Omega.{arith}
 use lib.ListN.{length}
 use Rattle.series.specs.Results.{Result, refused, value, _>>=_}
-use Rattle.series.specs.Series.{Series, method, exercised, draw, held, byMethod}
+use Rattle.series.specs.Series.{Series, method, exercised, draw, held, byMethod, order}
 use Rattle.series.specs.Wheel.{wheel}
 use Rattle.series.specs.ProRata.{proRata}
 use Rattle.series.specs.Lottery.{startingPlace, lottery, lotteryAmounts}
@@ -73,11 +73,11 @@ decided-known = refl
 module _ (s : Series) (room : ℕ) where
   -- the rows above the draw's
   abbrev above : List Row
-  above = listRows (s .accounts) (s .shorts) room ++ exercisedRows (held s) (exercised s)
+  above = listRows (method s) (order s) (s .accounts) (s .shorts) room ++ exercisedRows (held s) (exercised s)
 
   -- judging, by rows of the draw
   abbrev judgedBy : List Row → Result ℕ
-  judgedBy draws = first (listRows (s .accounts) (s .shorts) room ++ (exercisedRows (held s) (exercised s) ++ draws)) (held s)
+  judgedBy draws = first (listRows (method s) (order s) (s .accounts) (s .shorts) room ++ (exercisedRows (held s) (exercised s) ++ draws)) (held s)
 
   -- every draw was judged
   pub earlierVerdict : Result ℕ
@@ -85,7 +85,7 @@ module _ (s : Series) (room : ℕ) where
 
   in-parts : (draws : List Row) → judgedBy draws ≡ first above (held s) >>= first draws
   in-parts draws =
-      ap (λ xs. first xs (held s)) (sym (append-assoc (listRows (s .accounts) (s .shorts) room) (exercisedRows (held s) (exercised s)) draws))
+      ap (λ xs. first xs (held s)) (sym (append-assoc (listRows (method s) (order s) (s .accounts) (s .shorts) room) (exercisedRows (held s) (exercised s)) draws))
       ∙ first-append above draws (held s)
 
 -- and under L every amount came from the starting place
@@ -140,11 +140,13 @@ unfolding NoTen
 no-ten-append [] ys k l = l
 no-ten-append (x ∷ xs) ys k l = (k .0, no-ten-append xs ys (k .1) l)
 
-no-ten-positions : (before sum : ℕ) (accounts shorts : List ℕ) → NoTen (positionRows before sum accounts shorts)
+no-ten-positions : (m : Method) (earlier : List ℕ) (before sum : ℕ) (order accounts shorts : List ℕ) → NoTen (positionRows m earlier before sum order accounts shorts)
 unfolding NoTen positionRows
-no-ten-positions before sum [] hs = tt
-no-ten-positions before sum (a ∷ rest) [] = tt
-no-ten-positions before sum (a ∷ rest) (h ∷ hs) = (λ e. omega arith, (λ e. omega arith, (λ e. omega arith, no-ten-positions a (sum + h) rest hs)))
+no-ten-positions m earlier before sum [] rest hs = tt
+no-ten-positions m earlier before sum (k ∷ ks) [] hs = tt
+no-ten-positions m earlier before sum (k ∷ ks) (a ∷ rest) [] = tt
+no-ten-positions m earlier before sum (k ∷ ks) (a ∷ rest) (h ∷ hs) =
+    (λ e. omega arith, (λ e. omega arith, (λ e. omega arith, (λ e. omega arith, no-ten-positions m (a ∷ earlier) k (sum + h) ks rest hs))))
 
 -- so they do not refuse with it
 none-ten : (rows : List Row) (T : ℕ) → NoTen rows → first rows T ≡ refused 10 → ⊥
@@ -159,8 +161,8 @@ none-ten (r ∷ rows) T k h = step (r .holds) (none-ten rows T (k .1)) h
 above-no-ten : (s : Series) (room : ℕ) → NoTen (above s room)
 unfolding NoTen listRows lengthRows roomRows exercisedRows
 above-no-ten s room =
-    no-ten-append (listRows (s .accounts) (s .shorts) room) (exercisedRows (held s) (exercised s))
-    (λ e. omega arith, (λ e. omega arith, (λ e. omega arith, (λ e. omega arith, no-ten-positions 0 0 (s .accounts) (s .shorts)))))
+    no-ten-append (listRows (method s) (order s) (s .accounts) (s .shorts) room) (exercisedRows (held s) (exercised s))
+    (λ e. omega arith, (λ e. omega arith, (λ e. omega arith, (λ e. omega arith, no-ten-positions (method s) [] 0 0 (order s) (s .accounts) (s .shorts)))))
     (λ e. omega arith, (λ e. omega arith, tt))
 
 -- ---- what stays

@@ -1,8 +1,8 @@
 -- What a call that meets no refusal has of its output and its draw.
 use Prim.Native.Nat.{ℕ, suc, _+_, _*_, _/_, _≤_, _<_}
-use mathlib.Core.Path.{_≡_, refl, _∙_}
+use mathlib.Core.Path.{_≡_, refl, ap, _∙_}
 use mathlib.Core.Bool.{Bool, true, false, _||_}
-use mathlib.Core.List.{List, _++_}
+use mathlib.Core.List.{List, [], _++_}
 use native.Mathlib.Omega.{arith}
 use native.Mathlib.Nat.{le-refl, mul-le-mul}
 use lib.Dec.{eqb, ltb}
@@ -10,18 +10,13 @@ use lib.ListN.{length}
 use borrow.Author.Tests.{ltb-false, eqb-false, ne-eqb}
 use Rattle.series.specs.Results.{value}
 use Rattle.series.specs.Places.{OnWheel}
-use Rattle.series.specs.Series.{Series, exercised, held}
+use Rattle.series.specs.Series.{Series, method, exercised, held, byMethod, order}
 use Rattle.series.specs.Lottery.{startingPlace, unstarted}
 use Rattle.series.specs.Refusals.{NoneApplies, lengthRows, roomRows, positionRows, exercisedRows, outside, undrawn, drawRows, thenDrawRows, listRows, rows, verdict}
 use Rattle.series.specs.declared.Method.{Method}
 use Rattle.series.specs.declared.Terms.{Terms}
 use Rattle.series.proofs.RowLaws.{value-passed, value-same, passed-append}
-use Rattle.series.proofs.AcceptedLaws.{positive}
-
--- neither part of a test that fails holds
-pub or-false : (a b : Bool) → (a || b) ≡ false → (a ≡ false) × (b ≡ false)
-or-false false b h = (refl, h)
-or-false true b h = let z : _≡_ {A = ℕ} 0 1 = cc in absurd (omega arith)
+use Rattle.series.proofs.AcceptedLaws.{positive, or-false}
 
 not-outside : (n draw : ℕ) → outside n draw ≡ false → OnWheel n draw
 unfolding outside
@@ -49,8 +44,23 @@ module _ (s : Series) (room T : ℕ) (v : verdict s room ≡ value T) where
   unfolding rows listRows NoneApplies lengthRows roomRows
   draw-passes =
       let draws = thenDrawRows (s .terms) (held s) (length (s .shorts)) in
-      let terms = passed-append (positionRows 0 0 (s .accounts) (s .shorts)) (exercisedRows (held s) (exercised s) ++ draws) (all-passed .1 .1 .1 .1) .1 in
+      let terms = passed-append (positionRows (method s) [] 0 0 (order s) (s .accounts) (s .shorts)) (exercisedRows (held s) (exercised s) ++ draws) (all-passed .1 .1 .1 .1) .1 in
       passed-append (exercisedRows (held s) (exercised s)) draws terms .1
+
+-- another method than W
+pub not-wheel : (m : Method) → byMethod m true false false ≡ false → m ≡ Method.Wheel → ⊥
+not-wheel m e is = let z : _≡_ {A = ℕ} 0 1 = cc in omega arith
+
+-- under P and L no code is looked at
+pub codes-unseen : (t : Terms) (codes codes′ accounts shorts : List ℕ) (room : ℕ) → (t .method ≡ Method.Wheel → ⊥)
+    → verdict (record { terms = t; codes = codes; accounts = accounts; shorts = shorts }) room ≡ verdict (record { terms = t; codes = codes′; accounts = accounts; shorts = shorts }) room
+unfolding verdict rows
+codes-unseen t codes codes′ accounts shorts room other = by-cases (t .method) refl
+  where
+    by-cases : (m : Method) → t .method ≡ m → verdict (record { terms = t; codes = codes; accounts = accounts; shorts = shorts }) room ≡ verdict (record { terms = t; codes = codes′; accounts = accounts; shorts = shorts }) room
+    by-cases Method.Wheel e = absurd (other e)
+    by-cases Method.ProRata e = rw e refl
+    by-cases Method.Lottery e = rw e refl
 
 -- the draw is judged where nothing is decided before it
 draw-judged : (t : Terms) (T n : ℕ) → undrawn t T n ≡ false → NoneApplies (thenDrawRows t T n) → NoneApplies (drawRows t T)

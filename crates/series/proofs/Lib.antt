@@ -4,6 +4,8 @@ pub mod Starred
 pub mod Readings
 pub mod BeforeDraw
 pub mod OnePosition
+pub mod CodeLaws
+pub mod Coded
 pub mod CutOffLaws
 pub mod DrawUnused
 pub mod ResultLaws

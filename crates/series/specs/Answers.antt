@@ -3,7 +3,7 @@ use Prim.Native.Nat.{ℕ}
 use mathlib.Core.Option.{Option, none, some}
 use Rattle.series.specs.Results.{Result, refused, value}
 use Rattle.series.specs.declared.Refusal.{Refusal}
-use Rattle.series.specs.declared.Refusal.the-variants.{LengthsDiffer, TooManyPositions, NoPositions, OutputTooShort, AccountOrder, NoShorts, TotalTooLarge, NothingExercised, ExercisedAboveTotal, DrawOutOfRange, TextTooLong, NamesLine, Malformed, UnknownMethod, TooManyLines, CountTooLarge, ClosingPurchasesAboveShort, ExercisedAboveLimit}
+use Rattle.series.specs.declared.Refusal.the-variants.{LengthsDiffer, TooManyPositions, NoPositions, OutputTooShort, OutOfOrder, NoShorts, TotalTooLarge, NothingExercised, ExercisedAboveTotal, DrawOutOfRange, TextTooLong, NamesLine, Malformed, UnknownMethod, TooManyLines, CountTooLarge, ClosingPurchasesAboveShort, ExercisedAboveLimit, AccountRepeated}
 use Rattle.series.specs.declared.Method.{Method}
 use Rattle.series.specs.declared.Answer.{Answer}
 
@@ -13,7 +13,7 @@ numberOf LengthsDiffer = 1
 numberOf TooManyPositions = 2
 numberOf NoPositions = 3
 numberOf OutputTooShort = 4
-numberOf AccountOrder = 5
+numberOf OutOfOrder = 5
 numberOf NoShorts = 6
 numberOf TotalTooLarge = 7
 numberOf NothingExercised = 8
@@ -27,6 +27,7 @@ numberOf TooManyLines = 15
 numberOf CountTooLarge = 16
 numberOf ClosingPurchasesAboveShort = 17
 numberOf ExercisedAboveLimit = 18
+numberOf AccountRepeated = 19
 
 -- what an allocation hands back: T and one further number, which its method gives a meaning; none for L without a starting place
 pub record Allocation : Type 0 where

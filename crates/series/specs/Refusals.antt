@@ -7,8 +7,9 @@ use lib.Dec.{eqb, ltb, leb}
 use lib.ListN.{length}
 use Rattle.series.specs.Results.{Result, refused, value}
 use Rattle.series.specs.Places.{total}
-use Rattle.series.specs.Series.{Series, MOST_POSITIONS, MOST_CONTRACTS, exercised, held, byMethod}
+use Rattle.series.specs.Series.{Series, MOST_POSITIONS, MOST_CONTRACTS, method, exercised, held, byMethod, orderedBy, order}
 use Rattle.series.specs.Lottery.{unstarted}
+use Rattle.series.specs.declared.Method.{Method}
 use Rattle.series.specs.declared.Terms.{Terms}
 
 -- a row of the table: whether its condition holds, and its number
@@ -31,10 +32,10 @@ unfoldable pub NoneApplies : List Row → Type 0
 NoneApplies [] = Unit
 NoneApplies (r ∷ rows) = (r .holds ≡ false) × NoneApplies rows
 
--- list, its length
-unfoldable pub lengthRows : List ℕ → List ℕ → List Row
-lengthRows accounts shorts =
-    not (eqb (length accounts) (length shorts)) ⟶ 1 ∣
+-- list, its length: accounts and shorts, and under W the codes too; order is what the list rises by
+unfoldable pub lengthRows : List ℕ → List ℕ → List ℕ → List Row
+lengthRows order accounts shorts =
+    (not (eqb (length accounts) (length shorts)) || not (eqb (length order) (length shorts))) ⟶ 1 ∣
     ltb MOST_POSITIONS (length shorts) ⟶ 2 ∣
     eqb (length shorts) 0 ⟶ 3 ∣
     []
@@ -43,15 +44,27 @@ lengthRows accounts shorts =
 unfoldable pub roomRows : List ℕ → ℕ → List Row
 roomRows shorts room = ltb room (length shorts) ⟶ 4 ∣ []
 
--- list, each position in turn: after the account before it (0 for the first) and the sum of the shorts before it
-unfoldable pub positionRows : ℕ → ℕ → List ℕ → List ℕ → List Row
-positionRows before sum [] hs = []
-positionRows before sum (a ∷ rest) [] = []
-positionRows before sum (a ∷ rest) (h ∷ hs) =
-    (eqb a 0 || leb a before) ⟶ 5 ∣
+-- the number stands in the list
+unfoldable pub standsIn : ℕ → List ℕ → Bool
+standsIn n [] = false
+standsIn n (m ∷ ms) = eqb n m || standsIn n ms
+
+-- under W: the account is 0, or stands earlier in the list. P and L judge its order alone
+unfoldable pub repeated : Method → List ℕ → ℕ → Bool
+repeated m earlier a = byMethod m (eqb a 0 || standsIn a earlier) false false
+
+-- list, each position in turn, by its number in the order, its account and its shorts:
+-- after the accounts earlier in the list, the number before it (0 for the first) and the sum of the shorts before it
+unfoldable pub positionRows : Method → List ℕ → ℕ → ℕ → List ℕ → List ℕ → List ℕ → List Row
+positionRows m earlier before sum [] rest hs = []
+positionRows m earlier before sum (k ∷ ks) [] hs = []
+positionRows m earlier before sum (k ∷ ks) (a ∷ rest) [] = []
+positionRows m earlier before sum (k ∷ ks) (a ∷ rest) (h ∷ hs) =
+    (eqb k 0 || leb k before) ⟶ 5 ∣
+    repeated m earlier a ⟶ 19 ∣
     eqb h 0 ⟶ 6 ∣
     ltb MOST_CONTRACTS (sum + h) ⟶ 7 ∣
-    positionRows a (sum + h) rest hs
+    positionRows m (a ∷ earlier) k (sum + h) ks rest hs
 
 -- exercised
 unfoldable pub exercisedRows : ℕ → ℕ → List Row
@@ -74,20 +87,23 @@ unfoldable pub thenDrawRows : Terms → ℕ → ℕ → List Row
 thenDrawRows t T n = cond (undrawn t T n) [] (drawRows t T)
 
 -- the list's rows; room is the length of the output
-unfoldable pub listRows : List ℕ → List ℕ → ℕ → List Row
-listRows accounts shorts room = lengthRows accounts shorts ++ (roomRows shorts room ++ positionRows 0 0 accounts shorts)
+unfoldable pub listRows : Method → List ℕ → List ℕ → List ℕ → ℕ → List Row
+listRows m order accounts shorts room = lengthRows order accounts shorts ++ (roomRows shorts room ++ positionRows m [] 0 0 order accounts shorts)
 
 -- the table, from top to bottom
 unfoldable pub rows : Series → ℕ → List Row
-rows s room = listRows (s .accounts) (s .shorts) room ++ (exercisedRows (held s) (exercised s) ++ thenDrawRows (s .terms) (held s) (length (s .shorts)))
+rows s room =
+    listRows (method s) (order s) (s .accounts) (s .shorts) room
+    ++ (exercisedRows (held s) (exercised s) ++ thenDrawRows (s .terms) (held s) (length (s .shorts)))
 
 -- judging a call: T, or the first refusal that it meets
 unfoldable pub verdict : Series → ℕ → Result ℕ
 verdict s room = first (rows s room) (held s)
 
 -- judging a list alone, with no output, S or draw: T, or the first refusal that it meets
-unfoldable pub listVerdict : List ℕ → List ℕ → Result ℕ
-listVerdict accounts shorts = first (lengthRows accounts shorts ++ positionRows 0 0 accounts shorts) (total shorts)
+unfoldable pub listVerdict : Method → List ℕ → List ℕ → List ℕ → Result ℕ
+listVerdict m codes accounts shorts =
+    first (lengthRows (orderedBy m codes accounts) accounts shorts ++ positionRows m [] 0 0 (orderedBy m codes accounts) accounts shorts) (total shorts)
 
 -- the row is left aside: 4 or 10
 unfoldable pub leftAside : Row → Bool

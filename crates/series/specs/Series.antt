@@ -13,9 +13,10 @@ MOST_POSITIONS = 4096
 abbrev pub MOST_CONTRACTS : ℕ
 MOST_CONTRACTS = 10000000
 
--- a series: the method, S and the draw, and the list of its short positions, an account and its shorts each
+-- a series: the method, S and the draw, and the list of its short positions, a code, an account and its shorts each
 pub record Series : Type 0 where
   pub terms : Terms
+  pub codes : List ℕ
   pub accounts : List ℕ
   pub shorts : List ℕ
 
@@ -38,6 +39,7 @@ unfoldable pub redrawn : ℕ → Series → Series
 redrawn d s =
     record {
       terms = record { method = s .terms .method; exercised = s .terms .exercised; draw = d };
+      codes = s .codes;
       accounts = s .accounts;
       shorts = s .shorts;
     }
@@ -47,3 +49,11 @@ abbrev pub byMethod : {A : Type 0} → Method → A → A → A → A
 byMethod Method.Wheel w p l = w
 byMethod Method.ProRata w p l = p
 byMethod Method.Lottery w p l = l
+
+-- what the list rises by: the codes under W, the accounts under P and L
+abbrev pub orderedBy : Method → List ℕ → List ℕ → List ℕ
+orderedBy m codes accounts = byMethod m codes accounts accounts
+
+-- what a series rises by
+abbrev pub order : Series → List ℕ
+order s = orderedBy (method s) (s .codes) (s .accounts)

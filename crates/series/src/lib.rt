@@ -22,13 +22,13 @@ pub struct Terms {
     pub draw: u32,
 }
 
-// Why a call is turned away, in the order of the numbers 1 to 18 of documents 01 and 02.
+// Why a call is turned away, in the order of the numbers 1 to 19 of documents 01 and 02.
 pub enum Refusal {
     LengthsDiffer,
     TooManyPositions,
     NoPositions,
     OutputTooShort,
-    AccountOrder,
+    OutOfOrder,
     NoShorts,
     TotalTooLarge,
     NothingExercised,
@@ -42,6 +42,7 @@ pub enum Refusal {
     CountTooLarge,
     ClosingPurchasesAboveShort,
     ExercisedAboveLimit,
+    AccountRepeated,
 }
 
 // What the allocating call answers: T with the method's one further number, or a refusal.
@@ -77,7 +78,7 @@ pub fn number(refusal: Refusal) -> u32
         Refusal::TooManyPositions => 2,
         Refusal::NoPositions => 3,
         Refusal::OutputTooShort => 4,
-        Refusal::AccountOrder => 5,
+        Refusal::OutOfOrder => 5,
         Refusal::NoShorts => 6,
         Refusal::TotalTooLarge => 7,
         Refusal::NothingExercised => 8,
@@ -91,5 +92,6 @@ pub fn number(refusal: Refusal) -> u32
         Refusal::CountTooLarge => 16,
         Refusal::ClosingPurchasesAboveShort => 17,
         Refusal::ExercisedAboveLimit => 18,
+        Refusal::AccountRepeated => 19,
     }
 }

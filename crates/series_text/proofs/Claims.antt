@@ -2,6 +2,7 @@
 use Prim.Native.Nat.{ℕ, zero, suc}
 use Prim.Native.String.{String}
 use mathlib.Core.Path.{_≡_, refl}
+use mathlib.Core.Bool.{Bool, true, false}
 use mathlib.Core.List.{List, [], _∷_, _++_, map}
 use lib.ListN.{replicate}
 use Rattle.series.specs.Ascii.{ascii}
@@ -12,22 +13,23 @@ use Rattle.series.specs.declared.Method.{Method}
 use Rattle.series_text.specs.Numbers.{digit, digits, spelled, amountFrom, amount, numeral, number, decimalIn, decimal}
 use Rattle.series_text.specs.Fields.{Text, Read, ends, field, past, fieldBy, endBefore, readFields, writeNumber}
 use Rattle.series_text.specs.Rows.{numbers, readRow, readRows, writeRow, writeRows, rowsOf, column}
-use Rattle.series_text.specs.Names.{line1, line3, namesLine, afterLine, headingOr, readNames}
+use Rattle.series_text.specs.Names.{line1, line3, namesLine, headingOf, afterLine, headingOr, readNames}
 use Rattle.series_text.specs.Letters.{letter, methodBy, methodOf}
-use Rattle.series_text.specs.Text.{readTerms, readHead, readText, writeTerms, writeHead, writeText}
-use Rattle.series_text.specs.Calls.{readInto, evenly, lineCount, linesInto, writeInto}
+use Rattle.series_text.specs.Text.{readTerms, readHead, readPositions, readText, writeTerms, writeHead, textWith, sameNumbers, writesCodes, writeText}
+use Rattle.series_text.specs.Calls.{readInto, evenly, lineCount, headAndLines, writeInto, lengthOf}
 use Rattle.series_text.specs.declared.names.Heading.{Heading}
 
 -- the line `unfolding` names every definition that reading computes with
 reading : Text → Result Series
-unfolding digit digits spelled amountFrom amount numeral number ends field past fieldBy endBefore readFields numbers readRow readRows column namesLine afterLine headingOr readNames letter methodBy methodOf readTerms readHead readText ascii
+unfolding digit digits spelled amountFrom amount numeral number ends field past fieldBy endBefore readFields numbers readRow readRows column namesLine afterLine headingOr readNames letter methodBy methodOf readTerms readHead readPositions readText ascii
 reading s = readText s
 
--- case M
+-- case M: each code is its account
 pub M : Series
 M =
     record {
       terms = record { method = Method.Lottery; exercised = record { 0 = 13 }; draw = 4855 };
+      codes = 1 ∷ 2 ∷ 3 ∷ 4 ∷ 5 ∷ [];
       accounts = 1 ∷ 2 ∷ 3 ∷ 4 ∷ 5 ∷ [];
       shorts = 5 ∷ 8 ∷ 2 ∷ 10 ∷ 11 ∷ [];
     }
@@ -39,23 +41,54 @@ pub M-read : readText M-text ≡ value M
 unfolding reading M M-text
 M-read = refl
 
+-- with the code column it reads as the same series
+pub M-long : Text
+M-long = ascii "method,exercised,draw\nL,13,4855\ncode,account,short\n1,1,5\n2,2,8\n3,3,2\n4,4,10\n5,5,11\n"
+
+pub M-long-read : readText M-long ≡ value M
+unfolding reading M M-long
+M-long-read = refl
+
+-- M under W, with codes of its own, and an account lower than the one before it
+pub coded : Series
+coded =
+    record {
+      terms = record { method = Method.Wheel; exercised = record { 0 = 13 }; draw = 4855 };
+      codes = 10 ∷ 20 ∷ 30 ∷ 40 ∷ 50 ∷ [];
+      accounts = 1 ∷ 3 ∷ 2 ∷ 4 ∷ 5 ∷ [];
+      shorts = 5 ∷ 8 ∷ 2 ∷ 10 ∷ 11 ∷ [];
+    }
+
+pub coded-text : Text
+coded-text = ascii "method,exercised,draw\nW,13,4855\ncode,account,short\n10,1,5\n20,3,8\n30,2,2\n40,4,10\n50,5,11\n"
+
+pub coded-read : readText coded-text ≡ value coded
+unfolding reading coded coded-text
+coded-read = refl
+
 -- the definitions that writing computes with
 writing : Series → ℕ → Result Text
-unfolding M M-text ascii decimalIn decimal writeNumber endBefore writeRow writeRows listed rowsOf namesLine letter writeTerms writeHead writeText evenly lineCount linesInto writeInto
+unfolding ascii decimalIn decimal writeNumber endBefore writeRow writeRows listed rowsOf namesLine letter writeTerms writeHead textWith sameNumbers writesCodes writeText evenly lineCount headAndLines writeInto
 writing t room = writeInto t room
 
+-- without the code column
 pub M-written : writeText M ≡ M-text
-unfolding writing
+unfolding writing M M-text
 M-written = refl
+
+-- with it
+pub coded-written : writeText coded ≡ coded-text
+unfolding writing coded coded-text
+coded-written = refl
 
 -- n times the text t
 pub repeated : ℕ → Text → Text
 repeated zero t = []
 repeated (suc n) t = t ++ repeated n t
 
--- lines 1 to 3, as they should be
-pub head : Text
-head = ascii "method,exercised,draw\nW,1,1\naccount,short\n"
+-- lines 1 to 3, as they should be, with the code column or without it
+pub head : Bool → Text
+head c = ascii "method,exercised,draw\nW,1,1\n" ++ namesLine (headingOf c)
 
 -- a text and the number of its refusal, 0 where it is read
 pub record TextCase : Type 0 where
@@ -71,12 +104,18 @@ abbrev terms : ℕ → String → TextCase
 terms n s = record { number = n; text = namesLine Heading.Terms ++ ascii s }
 
 -- a text after three good lines
-abbrev lines : ℕ → String → TextCase
-lines n s = record { number = n; text = head ++ ascii s }
+abbrev afterHead : Bool → ℕ → String → TextCase
+afterHead c n s = record { number = n; text = head c ++ ascii s }
 
--- a text after three good lines and 1,024 good position lines
-abbrev most : ℕ → String → TextCase
-most n s = record { number = n; text = head ++ (repeated 1024 (ascii "1,1\n") ++ ascii s) }
+abbrev lines : ℕ → String → TextCase
+lines = afterHead false
+
+abbrev codedLines : ℕ → String → TextCase
+codedLines = afterHead true
+
+-- a text after three good lines and 1,024 times a good position line
+abbrev most : Bool → String → ℕ → String → TextCase
+most c line n s = record { number = n; text = head c ++ (repeated 1024 (ascii line) ++ ascii s) }
 
 -- n bytes, after the text s
 abbrev long : ℕ → Text → ℕ → TextCase
@@ -84,16 +123,20 @@ long r s n = record { number = r; text = s ++ replicate n 49 }
 
 pub texts : List TextCase
 texts =
-    -- read: no positions, the largest number, zero, leading zeros in every field, 1,024 positions
+    -- read: no positions, the largest number, zero, leading zeros in every field, 1,024 positions, all also with the code column
     lines 0 "" ∷
     lines 0 "4294967295,0\n" ∷
     terms 0 "P,0,4294967295\naccount,short\n0,0\n" ∷
     terms 0 "P,01,00\naccount,short\n001,0002\n" ∷
-    most 0 "" ∷
+    most false "1,1\n" 0 "" ∷
+    codedLines 0 "" ∷
+    codedLines 0 "4294967295,0,4294967295\n0,4294967295,0\n" ∷
+    terms 0 "P,01,00\ncode,account,short\n0003,001,0002\n" ∷
+    most true "1,1,1\n" 0 "" ∷
     -- 32,769 bytes, whatever they are; 32,768 bytes are judged by their lines
     long 11 [] 32769 ∷
-    long 11 head 32727 ∷
-    long 13 head 32726 ∷
+    long 11 (head false) 32727 ∷
+    long 13 (head false) 32726 ∷
     long 12 [] 32768 ∷
     -- line 1: missing, a carriage return, no byte 10, another name
     whole 12 "" ∷
@@ -105,6 +148,9 @@ texts =
     terms 12 "W,1,1\naccount,short" ∷
     terms 12 "W,1,1\naccount,short\r\n1,1\n" ∷
     terms 12 "W,1,1\naccount,shorts\n1,1\n" ∷
+    terms 12 "W,1,1\ncode,account,short" ∷
+    terms 12 "W,1,1\ncode,account,short\r\n1,1,1\n" ∷
+    terms 12 "W,1,1\ncode,account,shorts\n1,1,1\n" ∷
     -- line 2: missing, empty, two fields, four fields, no byte 10
     terms 13 "" ∷
     terms 13 "\naccount,short\n" ∷
@@ -135,15 +181,21 @@ texts =
     lines 13 "1,1\n2,2" ∷
     lines 13 ",\n" ∷
     lines 13 "1,\n" ∷
+    -- with the code column: two numbers, four numbers, an empty code
+    codedLines 13 "1,1\n" ∷
+    codedLines 13 "1,1,1,1\n" ∷
+    codedLines 13 ",1,1\n" ∷
     -- one above the largest, eleven digits, a carriage return, a letter after good lines
     lines 13 "4294967296,1\n" ∷
     lines 13 "1,42949672950\n" ∷
     lines 13 "1,1\r\n" ∷
     lines 13 "1,1\n2,2\n3,x\n" ∷
     -- a 1,025th line, also where it is malformed
-    most 15 "1,1\n" ∷
-    most 15 "x" ∷
-    most 15 "\n" ∷ []
+    most false "1,1\n" 15 "1,1\n" ∷
+    most false "1,1\n" 15 "x" ∷
+    most false "1,1\n" 15 "\n" ∷
+    most true "1,1,1\n" 15 "1,1,1\n" ∷
+    most true "1,1,1\n" 15 "x" ∷ []
 
 -- the number of the refusal that each text meets, 0 where it is read
 pub judged : map (λ r. status (readText (r .text))) texts ≡ map (λ r. r .number) texts
@@ -181,17 +233,18 @@ pub record FieldCase : Type 0 where
   pub series : ℕ → Series
 
 -- a series of one position under W
-abbrev one : ℕ → ℕ → ℕ → ℕ → Series
-one exercised draw account short =
-    record { terms = record { method = Method.Wheel; exercised = record { 0 = exercised }; draw = draw }; accounts = account ∷ []; shorts = short ∷ [] }
+abbrev one : ℕ → ℕ → ℕ → ℕ → ℕ → Series
+one exercised draw code account short =
+    record { terms = record { method = Method.Wheel; exercised = record { 0 = exercised }; draw = draw }; codes = code ∷ []; accounts = account ∷ []; shorts = short ∷ [] }
 
--- the account, the shorts, S and the draw
+-- the account, which is the code too, the shorts, the code, S and the draw
 pub fields : List FieldCase
 fields =
-    record { text = λ d. head ++ d ++ ascii ",2\n"; series = λ n. one 1 1 n 2 } ∷
-    record { text = λ d. head ++ ascii "7," ++ d ++ ascii "\n"; series = λ n. one 1 1 7 n } ∷
-    record { text = λ d. namesLine Heading.Terms ++ ascii "W," ++ d ++ ascii ",1\naccount,short\n7,2\n"; series = λ n. one n 1 7 2 } ∷
-    record { text = λ d. namesLine Heading.Terms ++ ascii "W,1," ++ d ++ ascii "\naccount,short\n7,2\n"; series = λ n. one 1 n 7 2 } ∷ []
+    record { text = λ d. head false ++ d ++ ascii ",2\n"; series = λ n. one 1 1 n n 2 } ∷
+    record { text = λ d. head false ++ ascii "7," ++ d ++ ascii "\n"; series = λ n. one 1 1 7 7 n } ∷
+    record { text = λ d. head true ++ d ++ ascii ",7,2\n"; series = λ n. one 1 1 n 7 2 } ∷
+    record { text = λ d. namesLine Heading.Terms ++ ascii "W," ++ d ++ ascii ",1\naccount,short\n7,2\n"; series = λ n. one n 1 7 7 2 } ∷
+    record { text = λ d. namesLine Heading.Terms ++ ascii "W,1," ++ d ++ ascii "\naccount,short\n7,2\n"; series = λ n. one 1 n 7 7 2 } ∷ []
 
 -- each spelling in each field: the series with its number there, or 13
 pub spellings-judged : map (λ f. map (λ c. readText (f .text (c .digits))) spellings) fields ≡ map (λ f. map (λ c. c .number >>= λ n. value (f .series n)) spellings) fields
@@ -221,6 +274,8 @@ names =
     found line1 "method,exercised,draw\nW" Heading.Terms "W" ∷
     found line3 "account,short\n" Heading.Positions "" ∷
     found line3 "account,short\n1" Heading.Positions "1" ∷
+    found line3 "code,account,short\n" Heading.CodedPositions "" ∷
+    found line3 "code,account,short\n1" Heading.CodedPositions "1" ∷
     -- no byte 10, a byte too many before it, a byte too few
     unknown line1 "method,exercised,draw" ∷
     unknown line1 "method,exercised,draws\n" ∷
@@ -228,8 +283,12 @@ names =
     unknown line3 "account,short" ∷
     unknown line3 "account,shorts\n" ∷
     unknown line3 "account,shor\n" ∷
+    unknown line3 "code,account,short" ∷
+    unknown line3 "code,account,shorts\n" ∷
+    unknown line3 "code,account,shor\n" ∷
     -- the words of line 3 in the place of line 1, and of line 1 in the place of line 3
     unknown line1 "account,short\n" ∷
+    unknown line1 "code,account,short\n" ∷
     unknown line3 "method,exercised,draw\n" ∷
     -- no text
     unknown line1 "" ∷
@@ -239,20 +298,56 @@ pub names-judged : map (λ r. readNames (r .known) (r .text)) names ≡ map (λ 
 unfolding reading names
 names-judged = refl
 
--- M's terms with other accounts and shorts
-abbrev M-with : List ℕ → List ℕ → Series
-M-with accounts shorts = record { terms = M .terms; accounts = accounts; shorts = shorts }
+-- ---- writing
 
--- case M, 68 bytes: 1 before 15, 15 before 4, 4 where a byte is missing
-pub M-writing :
-    (writeInto (M-with (replicate 1025 1) (replicate 1024 1)) 0 ≡ refused 1)
-    × (writeInto (M-with (replicate 1025 1) (replicate 1025 1)) 0 ≡ refused 15)
-    × (writeInto M 67 ≡ refused 4)
-    × (writeInto M 68 ≡ value M-text)
-unfolding writing
-M-writing = (refl, refl, refl, refl)
+-- n positions of the largest numbers, of 33 bytes each with the code column, and then one more
+abbrev large : ℕ → ℕ → ℕ → ℕ → Series
+large n code account short =
+    let then : ℕ → List ℕ = λ k. replicate n 4294967295 ++ (k ∷ []) in
+    record { terms = M .terms; codes = then code; accounts = then account; shorts = then short }
+
+-- M's terms with so many codes, accounts and shorts
+abbrev counted : ℕ → ℕ → ℕ → Series
+counted codes accounts shorts = record { terms = M .terms; codes = replicate codes 1; accounts = replicate accounts 1; shorts = replicate shorts 1 }
+
+-- a series, the length of the output, and the length of the text that is written, or the refusal
+pub record WritingCase : Type 0 where
+  pub series : Series
+  pub room : ℕ
+  pub answer : Result ℕ
+
+abbrev writes : Series → ℕ → Result ℕ → WritingCase
+writes t room answer = record { series = t; room = room; answer = answer }
+
+pub writings : List WritingCase
+writings =
+    -- one list is longer or shorter than the others, before 15
+    writes (counted 1024 1025 1025) 0 (refused 1) ∷
+    writes (counted 1025 1024 1025) 0 (refused 1) ∷
+    writes (counted 1025 1025 1024) 0 (refused 1) ∷
+    writes (counted 0 1 1) 0 (refused 1) ∷
+    -- 1,025 positions, before 11 and before 4
+    writes (large 1024 1 2 3) 0 (refused 15) ∷
+    writes (counted 1025 1025 1025) 0 (refused 15) ∷
+    -- 32,769 bytes, before 4; 32,768 bytes
+    writes (large 991 100000 100 101) 0 (refused 11) ∷
+    writes (large 991 10000 100 101) 32768 (value 32768) ∷
+    -- the series above
+    writes M 67 (refused 4) ∷
+    writes M 68 (value 68) ∷
+    writes coded 87 (refused 4) ∷
+    writes coded 88 (value 88) ∷ []
+
+pub writings-judged : map (λ r. lengthOf (writeInto (r .series) (r .room))) writings ≡ map (λ r. r .answer) writings
+unfolding writing M coded writings lengthOf
+writings-judged = refl
+
+-- case M, 68 bytes
+pub M-writing : writeInto M 68 ≡ value M-text
+unfolding writing M M-text
+M-writing = refl
 
 -- last of all 4: a lent list is shorter than the positions
-pub M-reading : (readInto M-text 4 5 ≡ refused 4) × (readInto M-text 5 4 ≡ refused 4) × (readInto M-text 5 5 ≡ value M)
+pub M-reading : (readInto M-text 4 5 5 ≡ refused 4) × (readInto M-text 5 4 5 ≡ refused 4) × (readInto M-text 5 5 4 ≡ refused 4) × (readInto M-text 5 5 5 ≡ value M)
 unfolding reading M M-text readInto
-M-reading = (refl, refl, refl)
+M-reading = (refl, refl, refl, refl)

@@ -35,12 +35,6 @@ column-rows c cs j long =
     ∙ listed-cong (λ i. getD (rowOf (c ∷ cs) i) j 0) (λ i. getD (getD (c ∷ cs) j []) i 0) (length c) (λ i lt. List·getD-map (λ d. getD d i 0) (c ∷ cs) j [])
     ∙ rw (← long) (listed-all (getD (c ∷ cs) j []))
 
-pub column-first : (xs ys : List ℕ) → column 0 (rowsOf (xs ∷ ys ∷ [])) ≡ xs
-column-first xs ys = column-rows xs (ys ∷ []) 0 refl
-
-pub column-second : (xs ys : List ℕ) → length ys ≡ length xs → column 1 (rowsOf (xs ∷ ys ∷ [])) ≡ ys
-column-second xs ys e = column-rows xs (ys ∷ []) 1 e
-
 -- ---- one row more
 
 -- each column with a number of the row at its end
@@ -80,18 +74,20 @@ rows-longer n c cs (x ∷ row) l e =
     (ap₂ (λ rows r. rows ++ (r ∷ [])) (listed-cong (rowOf (longer (c ∷ cs) (x ∷ row))) (rowOf (c ∷ cs)) n (λ i lt. row-before n i (c ∷ cs) (x ∷ row) l e lt))
     (row-last n (c ∷ cs) (x ∷ row) l e))
 
--- a row of two numbers, by their columns
-pub two-numbers : (row : List ℕ) → length row ≡ 2 → getD row 0 0 ∷ getD row 1 0 ∷ [] ≡ row
-two-numbers [] e = absurd (omega arith)
-two-numbers (a ∷ []) e = absurd (omega arith)
-two-numbers (a ∷ b ∷ []) e = refl
-two-numbers (a ∷ b ∷ c ∷ row) e = absurd (omega arith)
+-- the numbers of a row, by their columns
+numbers-by : (k : ℕ) (row : List ℕ) → length row ≡ k → listed (λ j. getD row j 0) k ≡ row
+numbers-by k row e = rw (← e) (listed-all row)
 
--- one row more of two lists that are written
-pub rows-set : (xs ys : List ℕ) (n : ℕ) (row : List ℕ) → n < length xs → n < length ys → length row ≡ 2
-    → rowsOf (take (n + 1) (set xs n (getD row 0 0)) ∷ take (n + 1) (set ys n (getD row 1 0)) ∷ []) ≡ rowsOf (take n xs ∷ take n ys ∷ []) ++ (row ∷ [])
-unfolding longer Long
-rows-set xs ys n row lx ly e =
-    rw (add-one, take-suc-set xs n (getD row 0 0) lx, take-suc-set ys n (getD row 1 0) ly)
-    (rows-longer n (take n xs) (take n ys ∷ []) (getD row 0 0 ∷ getD row 1 0 ∷ []) (length-take-le n xs (omega arith), (length-take-le n ys (omega arith), tt)) refl
-    ∙ ap (λ (r : List ℕ). rowsOf (take n xs ∷ take n ys ∷ []) ++ (r ∷ [])) (two-numbers row e))
+pub two-numbers : (row : List ℕ) → length row ≡ 2 → getD row 0 0 ∷ getD row 1 0 ∷ [] ≡ row
+unfolding listed
+two-numbers row e = numbers-by 2 row e
+
+-- one row more of three lists that are written
+pub rows-set : (xs ys zs : List ℕ) (n : ℕ) (row : List ℕ) → n < length xs → n < length ys → n < length zs → length row ≡ 3
+    → rowsOf (take (n + 1) (set xs n (getD row 0 0)) ∷ take (n + 1) (set ys n (getD row 1 0)) ∷ take (n + 1) (set zs n (getD row 2 0)) ∷ []) ≡ rowsOf (take n xs ∷ take n ys ∷ take n zs ∷ []) ++ (row ∷ [])
+unfolding longer Long listed
+rows-set xs ys zs n row lx ly lz e =
+    let long : Long n (take n xs ∷ take n ys ∷ take n zs ∷ []) = (length-take-le n xs (omega arith), (length-take-le n ys (omega arith), (length-take-le n zs (omega arith), tt))) in
+    rw (add-one, take-suc-set xs n (getD row 0 0) lx, take-suc-set ys n (getD row 1 0) ly, take-suc-set zs n (getD row 2 0) lz)
+    (rows-longer n (take n xs) (take n ys ∷ take n zs ∷ []) (getD row 0 0 ∷ getD row 1 0 ∷ getD row 2 0 ∷ []) long refl
+    ∙ ap (λ (r : List ℕ). rowsOf (take n xs ∷ take n ys ∷ take n zs ∷ []) ++ (r ∷ [])) (numbers-by 3 row e))

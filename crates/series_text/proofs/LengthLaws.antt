@@ -1,23 +1,29 @@
 -- How long the lines of a text are, and what is left of them after some of their numbers.
 use Prim.Native.Nat.{ℕ, zero, suc, _+_, _-_, _*_, _≤_, _<_}
 use mathlib.Core.Path.{_≡_, refl, sym, ap, _∙_}
+use mathlib.Core.Bool.{Bool, true, false, not, _&&_}
 use mathlib.Core.List.{List, [], _∷_, _++_, append-assoc, append-nil}
 use native.Mathlib.Omega.{arith}
 use native.Mathlib.Numerals.{add-one}
 use lib.ListN.{length, getD, drop, length-append, length-drop, length-map, drop-of-length-le}
 use lib.Seq.{drop-cons}
+use lib.Dec.{eqb, ltb}
+use borrow.Author.Tests.{eqb-true, ltb-false, not-false}
 use Rattle.series.specs.Ascii.{ascii}
 use Rattle.series.specs.Sums.{sumBelow, listed}
+use Rattle.series.specs.Results.{value, refuse}
 use Rattle.series.specs.declared.Terms.{Terms}
+use Rattle.series.proofs.ResultLaws.{stepped, not-refused}
 use Rattle.series.proofs.SumLaws.{sum-mono, sum-const, sum-first}
 use Rattle.series_text.specs.Numbers.{decimal}
 use Rattle.series_text.specs.Fields.{Text, endBefore, writeNumber}
 use Rattle.series_text.specs.Rows.{writeRow, writeRows, rowOf, rowsOf}
-use Rattle.series_text.specs.Names.{namesLine}
-use Rattle.series_text.specs.Text.{writeTerms, writeHead}
+use Rattle.series_text.specs.Names.{namesLine, headingOf}
+use Rattle.series_text.specs.Text.{MOST_LINES, writeTerms, writeHead}
 use Rattle.series_text.specs.declared.names.Heading.{Heading}
-use Rattle.series_text.specs.Calls.{lineCount}
-use Rattle.series_text.proofs.RowLaws.{row-few}
+use Rattle.series_text.specs.Calls.{evenly, lineCount, headAndLines}
+use Rattle.series_text.proofs.FieldLaws.{and-true-parts}
+use Rattle.series_text.proofs.RowLaws.{Each, row-few}
 
 pub length-number : (n c : ℕ) → length (writeNumber n c) ≡ length (decimal n) + 1
 unfolding writeNumber
@@ -95,11 +101,42 @@ rows-room (c ∷ cs) = lines-room (rowOf (c ∷ cs)) (length (c ∷ cs)) (length
 -- ---- lines 1 to 3
 
 -- their length is that of their parts
-pub length-head : (t : Terms) → length (writeHead t) ≡ length (namesLine Heading.Terms) + (2 + length (writeRow (t .exercised .0 ∷ t .draw ∷ []))) + length (namesLine Heading.Positions)
+pub length-head : (c : Bool) (t : Terms) → length (writeHead c t) ≡ length (namesLine Heading.Terms) + (2 + length (writeRow (t .exercised .0 ∷ t .draw ∷ []))) + length (namesLine (headingOf c))
 unfolding writeHead writeTerms
-length-head t =
-    omega (arith, length-append (namesLine Heading.Terms) (writeTerms t ++ namesLine Heading.Positions), length-append (writeTerms t) (namesLine Heading.Positions))
+length-head c t =
+    omega (arith, length-append (namesLine Heading.Terms) (writeTerms t ++ namesLine (headingOf c)), length-append (writeTerms t) (namesLine (headingOf c)))
 
-pub head-room : (t : Terms) → length (writeHead t) ≤ 60
+columns-room : (c : Bool) → length (namesLine (headingOf c)) ≤ 19
 unfolding namesLine ascii
-head-room t = omega (arith, length-head t, row-few (t .exercised .0 ∷ t .draw ∷ []))
+columns-room true = omega arith
+columns-room false = omega arith
+
+pub head-room : (c : Bool) (t : Terms) → length (writeHead c t) ≤ 65
+unfolding namesLine ascii
+head-room c t = omega (arith, length-head c t, columns-room c, row-few (t .exercised .0 ∷ t .draw ∷ []))
+
+-- ---- a head and lines
+
+-- what the test of the columns' lengths says
+pub even-each : (n : ℕ) (cs : List (List ℕ)) → evenly n cs ≡ true → Each (λ c. length c ≡ n) cs
+unfolding evenly
+even-each n [] e = tt
+even-each n (c ∷ cs) e = let both = and-true-parts (eqb (length c) n) (evenly n cs) e in (eqb-true (length c) n (both .0), even-each n cs (both .1))
+
+-- the columns are as long as the first, they are not too long, and the text is the head with their lines
+pub record LinesKnown (head : Text) (cs : List (List ℕ)) (s : Text) : Type 0 where
+  pub even : Each (λ c. length c ≡ lineCount cs) cs
+  pub few : lineCount cs ≤ MOST_LINES
+  pub text : head ++ writeRows (rowsOf cs) ≡ s
+
+pub lines-known : (head : Text) (cs : List (List ℕ)) (s : Text) → headAndLines head cs ≡ value s → LinesKnown head cs s
+unfolding headAndLines
+lines-known head cs s e =
+    let one = stepped (refuse (not (evenly (lineCount cs) cs)) 1 (head ++ writeRows (rowsOf cs))) _ s e in
+    let even = not-refused (not (evenly (lineCount cs) cs)) 1 (head ++ writeRows (rowsOf cs)) (one .from) (one .step) in
+    let few = not-refused (ltb MOST_LINES (lineCount cs)) 15 (one .from) s (one .on) in
+    record {
+      even = even-each (lineCount cs) cs (not-false (evenly (lineCount cs) cs) (even .0));
+      few = ltb-false MOST_LINES (lineCount cs) (few .0);
+      text = even .1 ∙ few .1;
+    }

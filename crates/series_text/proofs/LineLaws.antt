@@ -2,11 +2,12 @@
 use Prim.Native.Nat.{ℕ, zero, suc, _+_, _-_, _≤_, _<_}
 use mathlib.Core.Path.{_≡_, refl, sym, ap, subst, _∙_}
 use mathlib.Core.Bool.{Bool, true, false, cond, false≢true}
-use mathlib.Core.List.{List, [], _∷_, _++_, append-assoc, append-nil}
+use mathlib.Core.List.{List, [], _∷_, _++_, map, append-assoc, append-nil, map-id, map-map}
 use native.Mathlib.Omega.{arith}
 use native.Mathlib.Nat.{sub-zero}
 use native.Mathlib.Numerals.{add-one}
 use borrow.Author.Tests.{lt-ltb, le-ltb}
+use borrow.Rule.Slice.PartMut.{putMid}
 use lib.Dec.{eqb}
 use lib.ListN.{length, getD, take, drop, set, drop-of-length-le}
 use lib.Seq.{slice, slice-empty, slice-cons, take-suc-set, take-all}
@@ -16,14 +17,16 @@ use Rattle.series.specs.declared.Terms.{Terms}
 use Rattle.series.proofs.ResultLaws.{never}
 use Rattle.series_text.specs.Numbers.{number}
 use Rattle.series_text.specs.Fields.{Text, COMMA, NEWLINE, Read, ends, field, past, fieldBy, endBefore, readFields}
-use Rattle.series_text.specs.Rows.{numbers, readRow, readRows}
-use Rattle.series_text.specs.Names.{line1, line3, namesLine, afterLine, headingOr, readNames}
+use Rattle.series_text.specs.Rows.{numbers, readRow, readRows, rowsOf, column}
+use Rattle.series_text.specs.Names.{line1, line3, coded, namesLine, afterLine, headingOr, readNames}
 use Rattle.series_text.specs.Letters.{methodBy, methodOf}
-use Rattle.series_text.specs.Text.{MOST_BYTES, readTerms, readHead}
-use Rattle.series_text.specs.Parts.{numberBy, foundMeans, foundWithin, foundFields}
+use Rattle.series_text.specs.Text.{MOST_BYTES, MOST_LINES, lineWidth, seriesOf, readTerms, readHead, readPositions}
+use Rattle.series_text.specs.Parts.{numberBy, foundMeans, foundWithin, rowMeans, foundFields, withCode, readPosition}
 use Rattle.series_text.proofs.RowLaws.{rows-none}
+use Rattle.series_text.proofs.ColumnLaws.{column-rows}
 use Rattle.series_text.specs.declared.field.Found.{Found}
 use Rattle.series_text.specs.declared.names.Heading.{Heading}
+use Rattle.series_text.specs.declared.row.RowEnd.{RowEnd}
 use Rattle.series_text.proofs.FieldLaws.{drop-more, numbered, numberBy-numbered}
 
 -- ---- the names lines
@@ -32,6 +35,25 @@ use Rattle.series_text.proofs.FieldLaws.{drop-more, numbered, numberBy-
 pub names-read : (h : Heading) (s : Text) (r : Result Text) → r ≡ afterLine (namesLine h) s → headingOr h r (refused 12) ≡ readNames (h ∷ []) s
 unfolding readNames
 names-read h s r e = ap (λ (x : Result Text). headingOr h x (refused 12)) e
+
+module _ (h : Heading) (known : List Heading) (s : Text) where
+  -- the first heading is there
+  pub names-first : {x : Read Heading} → value x ≡ readNames (h ∷ []) s → value x ≡ readNames (h ∷ known) s
+  unfolding readNames headingOr
+  names-first {x} e = go (afterLine (namesLine h) s) e
+    where
+      go : (r : Result Text) → value x ≡ headingOr h r (refused 12) → value x ≡ headingOr h r (readNames known s)
+      go (refused n) e = absurd (never 12 x (sym e))
+      go (value rest) e = e
+
+  -- it is not, and the others are looked for
+  pub names-other : refused 12 ≡ readNames (h ∷ []) s → readNames known s ≡ readNames (h ∷ known) s
+  unfolding readNames headingOr
+  names-other e = go (afterLine (namesLine h) s) e
+    where
+      go : (r : Result Text) → refused 12 ≡ headingOr h r (refused 12) → readNames known s ≡ headingOr h r (readNames known s)
+      go (refused n) e = refl
+      go (value rest) e = absurd (never 12 _ e)
 
 -- ---- the byte that ends a field
 
@@ -330,11 +352,28 @@ module _ (s : Text) (fits : length s ≤ MOST_BYTES) where
       unfolding readHead
       head-columns h = rw (le-ltb MOST_BYTES (length s) fits, ← hn, ← ht, ← h)
 
-      pub head-all : {columns : Read Heading} → value columns ≡ readNames line3 (t .rest) → value (record { found = t .found; rest = columns .rest }) ≡ readHead s
+      pub head-all : {columns : Read Heading} → value columns ≡ readNames line3 (t .rest) → value (record { found = record { terms = t .found; coded = coded (columns .found) }; rest = columns .rest }) ≡ readHead s
       unfolding readHead
       head-all h = rw (le-ltb MOST_BYTES (length s) fits, ← hn, ← ht, ← h)
 
--- ---- the lines to the end of the text
+-- ---- the position lines
+
+-- the answer of `read_row` on a position line, with the code
+pub position-read : (c : Bool) (s u : Text) (row : List ℕ) (r : RowEnd) → rowMeans s row r ≡ readRow (lineWidth c) u → rowMeans s (withCode c row) r ≡ readPosition c u
+unfolding readPosition
+position-read c s u row (RowEnd.At next) h = rw (← h)
+position-read c s u row RowEnd.Malformed h = rw (← h)
+
+-- the account is put in front of numbers that stand in the rest of a row
+pub code-put : (row ns : List ℕ) → 1 ≤ length row → let whole = putMid 1 (length row - 1) row ns in set whole 0 (getD whole 1 0) ≡ withCode false ns
+code-put [] ns some = absurd (omega arith)
+code-put (a ∷ row) ns some =
+    let none : drop (length (a ∷ row) - 1) row ≡ [] = drop-of-length-le row {i = length (a ∷ row) - 1} (omega arith) in
+    rw (none, append-nil)
+
+-- at most so many position lines to the end of the text, each as a code, an account and shorts
+unfoldable pub positionRows : ℕ → Bool → Text → Result (List (List ℕ))
+positionRows most c s = readRows most (lineWidth c) s >>= λ rs. value (map (withCode c) rs)
 
 -- rows in front of those that are read
 unfoldable pub above : List (List ℕ) → Result (List (List ℕ)) → Result (List (List ℕ))
@@ -350,39 +389,81 @@ unfolding above
 above-above ps qs (refused n) = refl
 above-above ps qs (value rs) = rw append-assoc
 
+-- the first line, and then the others
+positions-next : (most : ℕ) (c : Bool) (b : ℕ) (s : Text) → positionRows (suc most) c (b ∷ s) ≡ (readPosition c (b ∷ s) >>= λ r. above (r .found ∷ []) (positionRows most c (r .rest)))
+unfolding positionRows readRows readPosition above
+positions-next most c b s = go (readRow (lineWidth c) (b ∷ s))
+  where
+    others : (row : List ℕ) (q : Result (List (List ℕ))) → ((q >>= λ rs. value (row ∷ rs)) >>= λ rs. value (map (withCode c) rs)) ≡ above (withCode c row ∷ []) (q >>= λ rs. value (map (withCode c) rs))
+    others row (refused n) = refl
+    others row (value rs) = refl
+
+    go : (q : Result (Read (List ℕ)))
+        → ((q >>= λ r. readRows most (lineWidth c) (r .rest) >>= λ rs. value (r .found ∷ rs)) >>= λ rs. value (map (withCode c) rs))
+        ≡ _>>=_ {A = Read (List ℕ)} (q >>= λ r. value (record { found = withCode c (r .found); rest = r .rest })) (λ r. above (r .found ∷ []) (positionRows most c (r .rest)))
+    go (refused n) = refl
+    go (value r) = others (r .found) (readRows most (lineWidth c) (r .rest))
+
 -- what the loop over the lines keeps: n rows of at most `most` are read, and the text goes on at index at
-pub record RowsTo (most k : ℕ) (s : Text) (from : ℕ) (rows : List (List ℕ)) (at n : ℕ) : Type 0 where
-  pub reads : readRows most k (drop from s) ≡ above rows (readRows (most - n) k (drop at s))
+pub record RowsTo (most : ℕ) (c : Bool) (s : Text) (from : ℕ) (rows : List (List ℕ)) (at n : ℕ) : Type 0 where
+  pub reads : positionRows most c (drop from s) ≡ above rows (positionRows (most - n) c (drop at s))
 
-pub rows-start : {most k : ℕ} {s : Text} {from : ℕ} → RowsTo most k s from [] from 0
-rows-start {most} {k} {s} {from} = record { reads = rw sub-zero (above-nil (readRows most k (drop from s))) }
+pub rows-start : {most : ℕ} {c : Bool} {s : Text} {from : ℕ} → RowsTo most c s from [] from 0
+rows-start {most} {c} {s} {from} = record { reads = rw sub-zero (above-nil (positionRows most c (drop from s))) }
 
-module _ {most k : ℕ} {s : Text} {from : ℕ} {rows : List (List ℕ)} {at n : ℕ} (so : RowsTo most k s from rows at n) where
+module _ {most : ℕ} {c : Bool} {s : Text} {from : ℕ} {rows : List (List ℕ)} {at n : ℕ} (so : RowsTo most c s from rows at n) where
   -- the text ends
-  pub rows-end : length s ≤ at → value rows ≡ readRows most k (drop from s)
-  unfolding above
+  pub rows-end : length s ≤ at → value rows ≡ positionRows most c (drop from s)
+  unfolding above positionRows
   rows-end le = sym (so .reads ∙ rw (drop-of-length-le s le, rows-none, append-nil))
 
   -- a line too many
-  pub rows-over : at < length s → most ≤ n → refused 15 ≡ readRows most k (drop from s)
-  unfolding above readRows
+  pub rows-over : at < length s → most ≤ n → refused 15 ≡ positionRows most c (drop from s)
+  unfolding above positionRows readRows
   rows-over lt le =
       let e : most - n ≡ 0 = omega arith in
       sym (so .reads ∙ rw (drop-more at s lt, e))
 
   -- a further line
-  next-row : at < length s → n < most → readRows most k (drop from s) ≡ above rows (readRow k (drop at s) >>= λ r. above (r .found ∷ []) (readRows (most - (n + 1)) k (r .rest)))
-  unfolding above readRows
+  next-row : at < length s → n < most → positionRows most c (drop from s) ≡ above rows (readPosition c (drop at s) >>= λ r. above (r .found ∷ []) (positionRows (most - (n + 1)) c (r .rest)))
   next-row lt le =
       let e : most - n ≡ suc (most - (n + 1)) = omega arith in
-      so .reads ∙ rw (drop-more at s lt, e)
+      so .reads ∙ rw (drop-more at s lt, e, positions-next)
 
   module _ (lt : at < length s) (le : n < most) where
     -- it has not its numbers
-    pub rows-malformed : refused 13 ≡ readRow k (drop at s) → refused 13 ≡ readRows most k (drop from s)
+    pub rows-malformed : refused 13 ≡ readPosition c (drop at s) → refused 13 ≡ positionRows most c (drop from s)
     unfolding above
     rows-malformed h = sym (next-row lt le ∙ rw (← h))
 
     -- one more row
-    pub rows-more : {row : List ℕ} {next : ℕ} → value (record { found = row; rest = drop next s }) ≡ readRow k (drop at s) → RowsTo most k s from (rows ++ (row ∷ [])) next (n + 1)
-    rows-more {row} {next} h = record { reads = next-row lt le ∙ rw (← h) (above-above rows (row ∷ []) (readRows (most - (n + 1)) k (drop next s))) }
+    pub rows-more : {row : List ℕ} {next : ℕ} → value (record { found = row; rest = drop next s }) ≡ readPosition c (drop at s) → RowsTo most c s from (rows ++ (row ∷ [])) next (n + 1)
+    rows-more {row} {next} h = record { reads = next-row lt le ∙ rw (← h) (above-above rows (row ∷ []) (positionRows (most - (n + 1)) c (drop next s))) }
+
+-- ---- the series of the position lines
+
+-- without a code the code is the account
+series-coded : (c : Bool) (t : Terms) (ps : List (List ℕ)) → seriesOf true t (map (withCode c) ps) ≡ seriesOf c t ps
+unfolding column
+series-coded true t ps = rw map-id
+series-coded false t ps = simp map-map
+
+module _ (c : Bool) (t : Terms) (s : Text) where
+  positions-by : (positionRows MOST_LINES c s >>= λ ps. value (seriesOf true t ps)) ≡ readPositions (record { terms = t; coded = c }) s
+  unfolding positionRows readPositions
+  positions-by = go (readRows MOST_LINES (lineWidth c) s)
+    where
+      go : (r : Result (List (List ℕ))) → ((r >>= λ ps. value (map (withCode c) ps)) >>= λ ps. value (seriesOf true t ps)) ≡ (r >>= λ ps. value (seriesOf c t ps))
+      go (refused n) = refl
+      go (value ps) = ap value (series-coded c t ps)
+
+  -- they are refused
+  pub positions-refused : {n : ℕ} → refused n ≡ positionRows MOST_LINES c s → refused n ≡ readPositions (record { terms = t; coded = c }) s
+  positions-refused h = rw (← h) at positions-by
+
+  -- they are the rows of three columns of one length
+  pub positions-all : {codes accounts shorts : List ℕ} → length accounts ≡ length codes → length shorts ≡ length codes → value (rowsOf (codes ∷ accounts ∷ shorts ∷ [])) ≡ positionRows MOST_LINES c s
+      → value (record { terms = t; codes = codes; accounts = accounts; shorts = shorts }) ≡ readPositions (record { terms = t; coded = c }) s
+  positions-all {codes} {accounts} {shorts} la ls h =
+      let rows = column-rows codes (accounts ∷ shorts ∷ []) in
+      rw (rows 0 refl, rows 1 la, rows 2 ls) at (rw (← h) at positions-by)

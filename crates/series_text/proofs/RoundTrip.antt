@@ -1,7 +1,7 @@
--- A text reads as its series whatever the spellings of its numbers, and so does what writing wrote: of the definitions, and of the two calls.
+-- A text reads as its series whatever the spellings of its numbers, with the code column or without it, and so does what writing wrote: of the definitions, and of the two calls.
 use Prim.Native.Nat.{ℕ, _+_, _*_, _≤_}
-use mathlib.Core.Path.{_≡_, refl, sym, ap, _∙_}
-use mathlib.Core.Bool.{true, false, not, _&&_}
+use mathlib.Core.Path.{_≡_, refl, sym, ap, ap₂, _∙_}
+use mathlib.Core.Bool.{Bool, true, false, not, true≢false}
 use mathlib.Core.List.{List, [], _∷_, _++_, map, append-assoc}
 use native.Mathlib.Omega.{arith}
 use borrow.Author.Tests.{le-ltb, ltb-false, eq-eqb, eqb-true, not-false}
@@ -18,24 +18,31 @@ use Rattle.series.proofs.ResultLaws.{value-is, stepped, not-refused}
 use Rattle.series_text.specs.Numbers.{LARGEST, decimal}
 use Rattle.series_text.specs.Fields.{Text, COMMA, ends, fieldBy}
 use Rattle.series_text.specs.Rows.{rowsOf}
-use Rattle.series_text.specs.Names.{namesLine, afterLine, headingOr, readNames}
+use Rattle.series_text.specs.Names.{line3, namesLine, headingOf, coded, afterLine, headingOr, readNames}
 use Rattle.series_text.specs.Letters.{letter, methodBy, methodOf}
-use Rattle.series_text.specs.Text.{MOST_BYTES, MOST_LINES, readTerms, readHead, readText, writeTerms, writeHead, columns, writeText}
-use Rattle.series_text.specs.Calls.{readingOf, readInto, handed, evenly, lineCount, linesInto, writeInto, lengthOf}
+use Rattle.series_text.specs.Text.{MOST_BYTES, MOST_LINES, readTerms, readHead, lineWidth, seriesOf, readPositions, readText, writeTerms, writeHead, columns, textWith, sameNumbers, writesCodes, writeText}
+use Rattle.series_text.specs.Calls.{readingOf, readInto, handed, evenly, lineCount, headAndLines, writeInto, lengthOf}
 use Rattle.series_text.specs.declared.names.Heading.{Heading}
 use Rattle.series_text.specs.declared.Reading.{Reading}
 use Rattle.series_text.proofs.FieldLaws.{prefixed, field-byte, field-end, and-true-parts}
-use Rattle.series_text.proofs.RowLaws.{Fits, fits-none, fits-more, fieldsLine, FieldsSpell, numbers-read, fields-read, row-spells, row-line, line-few, fieldsLines, LinesSpell, rows-read, rows-spell, rows-lines, lines-few, rows-fit}
-use Rattle.series_text.proofs.ColumnLaws.{length-rows, column-first, column-second}
+use Rattle.series_text.proofs.RowLaws.{Fits, fits-none, fits-more, Figures, Each, fieldsLine, FieldsSpell, numbers-read, fields-read, row-spells, row-line, line-few, fieldsLines, LinesSpell, rows-read, rows-spell, rows-lines, lines-few, rows-fit}
+use Rattle.series_text.proofs.LengthLaws.{lines-known}
+use Rattle.series_text.proofs.ColumnLaws.{length-rows, column-rows}
 
--- what can be written: numbers of 32 bits, and at most 1,024 positions, an account and its shorts each
+-- a code and a number of shorts for each account, and at most 1,024 accounts
+pub record Lists (t : Series) : Type 0 where
+  pub codes : length (t .codes) ≡ length (t .accounts)
+  pub shorts : length (t .shorts) ≡ length (t .accounts)
+  pub few : length (t .accounts) ≤ MOST_LINES
+
+-- what can be written: numbers of 32 bits, and at most 1,024 positions, a code, an account and its shorts each
 pub record Writable (t : Series) : Type 0 where
   pub exercised : exercised t ≤ LARGEST
   pub draw : draw t ≤ LARGEST
+  pub codes : Fits (t .codes)
   pub accounts : Fits (t .accounts)
   pub shorts : Fits (t .shorts)
-  pub same : length (t .shorts) ≡ length (t .accounts)
-  pub few : length (t .accounts) ≤ MOST_LINES
+  pub lists : Lists t
 
 -- ---- line by line
 
@@ -73,120 +80,226 @@ terms-back t terms s so =
     let ns : List ℕ = t .exercised .0 ∷ t .draw ∷ [] in
     rw (letter-field (t .method) (fieldsLine terms ++ s), fields-read terms ns s so, letter-method (t .method), numbers-read terms ns so)
 
--- lines 1 to 3
-unfoldable pub spelledHead : Method → List Text → Text
-spelledHead m terms = namesLine Heading.Terms ++ (spelledTerms m terms ++ namesLine Heading.Positions)
+-- line 3, with the code column or without it
+columns-back : (c : Bool) (s : Text) → readNames line3 (namesLine (headingOf c) ++ s) ≡ value (record { found = headingOf c; rest = s })
+unfolding readNames headingOr afterLine namesLine ascii
+columns-back true s = names-back Heading.CodedPositions [] s
+columns-back false s = names-back Heading.Positions (Heading.CodedPositions ∷ []) s
 
-head-back : (t : Terms) (terms : List Text) (s : Text) → FieldsSpell terms (t .exercised .0 ∷ t .draw ∷ []) → length (spelledHead (t .method) terms ++ s) ≤ MOST_BYTES → readHead (spelledHead (t .method) terms ++ s) ≡ value (record { found = t; rest = s })
+-- the heading says the form
+coded-heading : (c : Bool) → coded (headingOf c) ≡ c
+coded-heading true = refl
+coded-heading false = refl
+
+-- lines 1 to 3
+unfoldable pub spelledHead : Bool → Method → List Text → Text
+spelledHead c m terms = namesLine Heading.Terms ++ (spelledTerms m terms ++ namesLine (headingOf c))
+
+head-back : (c : Bool) (t : Terms) (terms : List Text) (s : Text) → FieldsSpell terms (t .exercised .0 ∷ t .draw ∷ []) → length (spelledHead c (t .method) terms ++ s) ≤ MOST_BYTES
+    → readHead (spelledHead c (t .method) terms ++ s) ≡ value (record { found = record { terms = t; coded = c }; rest = s })
 unfolding readHead spelledHead
-head-back t terms s so few =
+head-back c t terms s so few =
     let first : Text = namesLine Heading.Terms in
     let second : Text = spelledTerms (t .method) terms in
-    let third : Text = namesLine Heading.Positions in
-    rw (le-ltb MOST_BYTES (length (spelledHead (t .method) terms ++ s)) few, append-assoc first (second ++ third) s, append-assoc second third s, names-back Heading.Terms [] (second ++ (third ++ s)), terms-back t terms (third ++ s) so, names-back Heading.Positions [] s)
+    let third : Text = namesLine (headingOf c) in
+    rw (le-ltb MOST_BYTES (length (spelledHead c (t .method) terms ++ s)) few, append-assoc first (second ++ third) s, append-assoc second third s, names-back Heading.Terms [] (second ++ (third ++ s)), terms-back t terms (third ++ s) so, columns-back c s, coded-heading c)
 
 -- the text by the method m, S and the draw spelled by these fields, and the positions by these lines
-unfoldable pub spelledText : Method → List Text → List (List Text) → Text
-spelledText m terms lines = spelledHead m terms ++ fieldsLines lines
+unfoldable pub spelledText : Bool → Method → List Text → List (List Text) → Text
+spelledText c m terms lines = spelledHead c m terms ++ fieldsLines lines
 
--- the fields spell the numbers of a series of at most 1,024 positions, an account and its shorts each
-pub record TextSpells (t : Series) (terms : List Text) (lines : List (List Text)) : Type 0 where
+-- without the code column each code is its account
+abbrev pub Plain : Bool → Series → Type 0
+Plain c t = c ≡ false → t .codes ≡ t .accounts
+
+-- the fields spell the numbers of a series, with the code column or without it
+pub record TextSpells (c : Bool) (t : Series) (terms : List Text) (lines : List (List Text)) : Type 0 where
   pub values : FieldsSpell terms (exercised t ∷ draw t ∷ [])
-  pub rows : LinesSpell 2 lines (rowsOf (columns t))
-  pub same : length (t .shorts) ≡ length (t .accounts)
-  pub few : length (t .accounts) ≤ MOST_LINES
+  pub rows : LinesSpell (lineWidth c) lines (rowsOf (columns c t))
+  pub plain : Plain c t
+  pub lists : Lists t
+
+-- ---- the columns of a series
+
+-- a position line has numbers
+pub width-some : (c : Bool) → 1 ≤ lineWidth c
+width-some true = omega arith
+width-some false = omega arith
+
+-- a row for each position
+position-rows : (c : Bool) (t : Series) → Lists t → length (rowsOf (columns c t)) ≡ length (t .accounts)
+position-rows true t l = length-rows (t .codes) (t .accounts ∷ t .shorts ∷ []) ∙ l .codes
+position-rows false t l = length-rows (t .accounts) (t .shorts ∷ [])
+
+-- the series of the rows of its columns
+pub series-back : (c : Bool) (t : Series) → Plain c t → Lists t → seriesOf c (t .terms) (rowsOf (columns c t)) ≡ t
+series-back true t plain l =
+    let at = column-rows (t .codes) (t .accounts ∷ t .shorts ∷ []) in
+    rw (at 0 refl, at 1 (sym (l .codes)), at 2 (l .shorts ∙ sym (l .codes)))
+series-back false t plain l =
+    let at = column-rows (t .accounts) (t .shorts ∷ []) in
+    rw (at 0 refl, at 1 (l .shorts), ← plain refl)
 
 -- ---- the laws
 
--- lines 1 to 3 have at most 60 bytes and a position line at most 22, so that a text of 1,024 positions has at most 22,588, whatever its spellings
-pub spelled-few : (t : Series) (terms : List Text) (lines : List (List Text)) → TextSpells t terms lines → length (spelledText (t .terms .method) terms lines) ≤ 60 + 22 * length (t .accounts)
+-- lines 1 and 2 have at most 46 bytes and each number of a position line at most 11, whatever the spellings
+pub spelled-few : (c : Bool) (t : Series) (terms : List Text) (lines : List (List Text)) → TextSpells c t terms lines
+    → length (spelledText c (t .terms .method) terms lines) ≤ 46 + length (namesLine (headingOf c)) + 11 * lineWidth c * length (t .accounts)
 unfolding spelledText spelledHead spelledTerms namesLine ascii
-spelled-few t terms lines so =
+spelled-few c t terms lines so =
     let m : Method = t .terms .method in
-    let third : Text = namesLine Heading.Positions in
-    omega (arith, length-append (spelledHead m terms) (fieldsLines lines), length-append (namesLine Heading.Terms) (spelledTerms m terms ++ third), length-append (spelledTerms m terms) third, line-few terms (exercised t ∷ draw t ∷ []) (so .values), lines-few 2 lines (rowsOf (columns t)) (so .rows), length-rows (t .accounts) (t .shorts ∷ []))
+    let third : Text = namesLine (headingOf c) in
+    omega (arith, length-append (spelledHead c m terms) (fieldsLines lines), length-append (namesLine Heading.Terms) (spelledTerms m terms ++ third), length-append (spelledTerms m terms) third, line-few terms (exercised t ∷ draw t ∷ []) (so .values), rw (position-rows c t (so .lists)) at (lines-few (lineWidth c) lines (rowsOf (columns c t)) (so .rows)))
+
+-- without the code column a text has at most 22,588 bytes
+pub plain-fits : (t : Series) (terms : List Text) (lines : List (List Text)) → TextSpells false t terms lines → length (spelledText false (t .terms .method) terms lines) ≤ MOST_BYTES
+unfolding namesLine ascii
+plain-fits t terms lines so = omega (arith, spelled-few false t terms lines so, so .lists .few)
 
 -- a text whose fields spell the numbers of a series, each in any of its spellings, reads as that series
-pub any-spelling : (t : Series) (terms : List Text) (lines : List (List Text)) → TextSpells t terms lines → readText (spelledText (t .terms .method) terms lines) ≡ value t
-unfolding readText spelledText
-any-spelling t terms lines so =
-    let rows : List (List ℕ) = rowsOf (columns t) in
-    let few : length (spelledText (t .terms .method) terms lines) ≤ MOST_BYTES = omega (arith, spelled-few t terms lines so, so .few) in
-    rw (head-back (t .terms) terms (fieldsLines lines) (so .values) few, rows-read MOST_LINES 2 lines rows (omega arith) (omega (arith, length-rows (t .accounts) (t .shorts ∷ []), so .few)) (so .rows), column-first (t .accounts) (t .shorts), column-second (t .accounts) (t .shorts) (so .same))
+pub any-spelling : (c : Bool) (t : Series) (terms : List Text) (lines : List (List Text)) → TextSpells c t terms lines → length (spelledText c (t .terms .method) terms lines) ≤ MOST_BYTES
+    → readText (spelledText c (t .terms .method) terms lines) ≡ value t
+unfolding readText readPositions spelledText
+any-spelling c t terms lines so fits =
+    let rows : List (List ℕ) = rowsOf (columns c t) in
+    let few : length rows ≤ MOST_LINES = omega (arith, position-rows c t (so .lists), so .lists .few) in
+    rw (head-back c (t .terms) terms (fieldsLines lines) (so .values) fits, rows-read MOST_LINES (lineWidth c) lines rows (width-some c) few (so .rows), series-back c t (so .plain) (so .lists))
 
 -- the digits that are written for a series
 abbrev writtenTerms : Series → List Text
 writtenTerms t = map decimal (exercised t ∷ draw t ∷ [])
 
-abbrev writtenLines : Series → List (List Text)
-writtenLines t = map (map decimal) (rowsOf (columns t))
+abbrev writtenLines : Bool → Series → List (List Text)
+writtenLines c t = map (map decimal) (rowsOf (columns c t))
 
--- they spell its numbers
-written-spells : (t : Series) → Writable t → TextSpells t (writtenTerms t) (writtenLines t)
-written-spells t w =
+-- the numbers of its rows fit 32 bits
+columns-fit : (c : Bool) (t : Series) → Writable t → Each (Figures (lineWidth c)) (rowsOf (columns c t))
+columns-fit true t w = rows-fit (columns true t) (w .codes, (w .accounts, (w .shorts, tt)))
+columns-fit false t w = rows-fit (columns false t) (w .accounts, (w .shorts, tt))
+
+-- the digits spell its numbers
+written-spells : (c : Bool) (t : Series) → Plain c t → Writable t → TextSpells c t (writtenTerms t) (writtenLines c t)
+written-spells c t plain w =
     let ns : List ℕ = exercised t ∷ draw t ∷ [] in
     let fits : Fits ns = fits-more (exercised t) (draw t ∷ []) (w .exercised) (fits-more (draw t) [] (w .draw) fits-none) in
-    record {
-      values = row-spells ns fits;
-      rows = rows-spell 2 (rowsOf (columns t)) (rows-fit (columns t) (w .accounts, (w .shorts, tt)));
-      same = w .same;
-      few = w .few;
-    }
+    record { values = row-spells ns fits; rows = rows-spell (lineWidth c) (rowsOf (columns c t)) (columns-fit c t w); plain = plain; lists = w .lists }
 
 -- and make its text
-written-text : (t : Series) → writeText t ≡ spelledText (t .terms .method) (writtenTerms t) (writtenLines t)
-unfolding writeText writeHead writeTerms spelledText spelledHead spelledTerms
-written-text t = rw (row-line (exercised t ∷ draw t ∷ []), rows-lines (rowsOf (columns t)))
+written-text : (c : Bool) (t : Series) → textWith c t ≡ spelledText c (t .terms .method) (writtenTerms t) (writtenLines c t)
+unfolding textWith writeHead writeTerms spelledText spelledHead spelledTerms
+written-text c t = rw (row-line (exercised t ∷ draw t ∷ []), rows-lines (rowsOf (columns c t)))
 
--- for every method, S, draw and list of at most 1,024 positions of numbers of 32 bits, the text that is written reads as the same series
-pub round-trip : (t : Series) → Writable t → readText (writeText t) ≡ value t
-round-trip t w = ap readText (written-text t) ∙ any-spelling t (writtenTerms t) (writtenLines t) (written-spells t w)
+-- the text of a series reads as that series, with the code column or without it
+text-back : (c : Bool) (t : Series) → Plain c t → Writable t → length (textWith c t) ≤ MOST_BYTES → readText (textWith c t) ≡ value t
+text-back c t plain w fits =
+    let is = written-text c t in
+    ap readText is ∙ any-spelling c t (writtenTerms t) (writtenLines c t) (written-spells c t plain w) (omega (arith, ap length is))
+
+-- ---- the code column
+
+same-self : (a : List ℕ) → sameNumbers a a ≡ true
+unfolding sameNumbers
+same-self [] = refl
+same-self (m ∷ a) = rw (eq-eqb m m refl) (same-self a)
+
+-- the test is passed exactly where the lists are equal
+pub same-numbers : (a b : List ℕ) → sameNumbers a b ≡ true → a ≡ b
+unfolding sameNumbers
+same-numbers [] [] e = refl
+same-numbers [] (n ∷ b) e = absurd (true≢false (sym e))
+same-numbers (m ∷ a) [] e = absurd (true≢false (sym e))
+same-numbers (m ∷ a) (n ∷ b) e = let both = and-true-parts (eqb m n) (sameNumbers a b) e in ap₂ _∷_ (eqb-true m n (both .0)) (same-numbers a b (both .1))
+
+pub numbers-same : (a b : List ℕ) → a ≡ b → sameNumbers a b ≡ true
+numbers-same a b e = rw (← e) (same-self a)
+
+-- the column is not written exactly where the codes are the accounts
+pub codes-plain : (t : Series) → writesCodes t ≡ false → t .codes ≡ t .accounts
+unfolding writesCodes
+codes-plain t e = same-numbers (t .codes) (t .accounts) (not-false (sameNumbers (t .codes) (t .accounts)) e)
+
+pub plain-codes : (t : Series) → t .codes ≡ t .accounts → writesCodes t ≡ false
+unfolding writesCodes
+plain-codes t e = ap not (numbers-same (t .codes) (t .accounts) e)
+
+-- for every method, S, draw and list of at most 1,024 positions of numbers of 32 bits, the text that is written, where it fits, reads as the same series
+pub round-trip : (t : Series) → Writable t → length (writeText t) ≤ MOST_BYTES → readText (writeText t) ≡ value t
+unfolding writeText
+round-trip t w fits = text-back (writesCodes t) t (codes-plain t) w fits
+
+-- without the code column it always fits
+pub short-fits : (t : Series) → Writable t → writesCodes t ≡ false → length (writeText t) ≤ MOST_BYTES
+unfolding writeText
+short-fits t w e = rw e (omega (arith, ap length (written-text false t), plain-fits t (writtenTerms t) (writtenLines false t) (written-spells false t (λ _. codes-plain t e) w)))
+
+-- where the column is left out, the text without it reads as the series
+pub left-out : (t : Series) → Writable t → writesCodes t ≡ false → readText (textWith false t) ≡ value t
+unfolding writeText
+left-out t w e = rw e at (round-trip t w (short-fits t w e))
+
+-- and only there: the text without it reads as the series whose codes are the accounts
+pub left-out-only : (t : Series) → Writable t → readText (textWith false t) ≡ value t → writesCodes t ≡ false
+unfolding textWith
+left-out-only t w back =
+    let u : Series = record { terms = t .terms; codes = t .accounts; accounts = t .accounts; shorts = t .shorts } in
+    let lists : Lists u = record { codes = refl; shorts = w .lists .shorts; few = w .lists .few } in
+    let wu : Writable u = record { exercised = w .exercised; draw = w .draw; codes = w .accounts; accounts = w .accounts; shorts = w .shorts; lists = lists } in
+    let same : u ≡ t = value-is (sym (left-out u wu (plain-codes u refl)) ∙ back) in
+    plain-codes t (sym (ap (λ (s : Series). s .codes) same) ∙ ap (λ (s : Series). s .accounts) same)
 
 -- ---- the two calls
 
+-- the lists of a series whose columns are as long as the first
+even-lists : (c : Bool) (t : Series) (n : ℕ) → Plain c t → Each (λ l. length l ≡ n) (columns c t) → n ≤ MOST_LINES → Lists t
+even-lists true t n plain each few = omega arith
+even-lists false t n plain each few = omega (arith, ap length (plain refl))
+
 -- what writing wrote, where it answers with a length
 record Wrote (t : Series) (room n : ℕ) : Type 0 where
-  same : length (t .shorts) ≡ length (t .accounts)
-  few : length (t .accounts) ≤ MOST_LINES
+  lists : Lists t
+  fits : length (writeText t) ≤ MOST_BYTES
   is : writeInto t room ≡ value (writeText t)
   long : length (writeText t) ≡ n
 
 wrote : (t : Series) (room n : ℕ) → lengthOf (writeInto t room) ≡ value n → Wrote t room n
-unfolding writeInto linesInto evenly lineCount lengthOf writeText
+unfolding writeInto lengthOf textWith writeText
 wrote t room n e =
-    let N : ℕ = length (t .accounts) in
+    let c : Bool = writesCodes t in
+    let cs : List (List ℕ) = columns c t in
     let s : Text = writeText t in
     let o = stepped (writeInto t room) (λ s. value (length s)) n e in
-    let one = stepped (refuse (not (evenly N (columns t))) 1 s) _ (o .from) (o .step) in
-    let even = not-refused (not (evenly N (columns t))) 1 s (one .from) (one .step) in
-    let two = stepped (refuse (ltb MOST_LINES N) 15 (one .from)) _ (o .from) (one .on) in
-    let few = not-refused (ltb MOST_LINES N) 15 (one .from) (two .from) (two .step) in
-    let room-enough = not-refused (ltb room (length (two .from))) 4 (two .from) (o .from) (two .on) in
-    let text : s ≡ o .from = even .1 ∙ few .1 ∙ room-enough .1 in
-    let both = and-true-parts (eqb N N) (eqb (length (t .shorts)) N && true) (not-false (evenly N (columns t)) (even .0)) in
+    let body = stepped (headAndLines (writeHead c (t .terms)) cs) _ (o .from) (o .step) in
+    let known = lines-known (writeHead c (t .terms)) cs (body .from) (body .step) in
+    let most = stepped (refuse (ltb MOST_BYTES (length (body .from))) 11 (body .from)) _ (o .from) (body .on) in
+    let fits = not-refused (ltb MOST_BYTES (length (body .from))) 11 (body .from) (most .from) (most .step) in
+    let enough = not-refused (ltb room (length (most .from))) 4 (most .from) (o .from) (most .on) in
+    let text : s ≡ o .from = known .text ∙ fits .1 ∙ enough .1 in
     record {
-      same = eqb-true (length (t .shorts)) N (and-true-parts (eqb (length (t .shorts)) N) true (both .1) .0);
-      few = ltb-false MOST_LINES N (few .0);
+      lists = even-lists c t (lineCount cs) (codes-plain t) (known .even) (known .few);
+      fits = omega (arith, ap length (known .text), ltb-false MOST_BYTES (length (body .from)) (fits .0));
       is = o .step ∙ ap value (sym text);
       long = ap length text ∙ value-is (o .on);
     }
 
--- where writing answered Written n and left the output new, reading the first n bytes of it into two lists that are long enough
+-- where writing answered Written n and left the output new, reading the first n bytes of it into three lists that are long enough
 -- answers with the same series, and the lists hold its positions and then what they held
 pub calls-round-trip :
-    (t : Series) → exercised t ≤ LARGEST → draw t ≤ LARGEST → Fits (t .accounts) → Fits (t .shorts)
+    (t : Series) → exercised t ≤ LARGEST → draw t ≤ LARGEST → Fits (t .codes) → Fits (t .accounts) → Fits (t .shorts)
     → (old new : List ℕ) (n : ℕ) → value n ≡ lengthOf (writeInto t (length old)) → new ≡ after (writeInto t (length old)) (λ s. onto s old) old
-    → (A H A′ H′ : List ℕ) (r : Reading) → length (t .accounts) ≤ length A → length (t .shorts) ≤ length H
-    → readingOf r ≡ handed (readInto (take n new) (length A) (length H))
-    → A′ ≡ after (readInto (take n new) (length A) (length H)) (λ s. onto (s .accounts) A) A
-    → H′ ≡ after (readInto (take n new) (length A) (length H)) (λ s. onto (s .shorts) H) H
-    → (readingOf r ≡ value (record { terms = t .terms; positions = length (t .accounts) })) × (A′ ≡ onto (t .accounts) A) × (H′ ≡ onto (t .shorts) H)
+    → (C A H C′ A′ H′ : List ℕ) (r : Reading) → length (t .codes) ≤ length C → length (t .accounts) ≤ length A → length (t .shorts) ≤ length H
+    → readingOf r ≡ handed (readInto (take n new) (length C) (length A) (length H))
+    → C′ ≡ after (readInto (take n new) (length C) (length A) (length H)) (λ s. onto (s .codes) C) C
+    → A′ ≡ after (readInto (take n new) (length C) (length A) (length H)) (λ s. onto (s .accounts) A) A
+    → H′ ≡ after (readInto (take n new) (length C) (length A) (length H)) (λ s. onto (s .shorts) H) H
+    → (readingOf r ≡ value (record { terms = t .terms; positions = length (t .accounts) })) × (C′ ≡ onto (t .codes) C) × (A′ ≡ onto (t .accounts) A) × (H′ ≡ onto (t .shorts) H)
 unfolding onto readInto handed
-calls-round-trip t fe fd fa fh old new n answered left A H A′ H′ r roomA roomH reads ra rh =
+calls-round-trip t fe fd fc fa fh old new n answered left C A H C′ A′ H′ r roomC roomA roomH reads rc ra rh =
     let w : Wrote t (length old) n = wrote t (length old) n (sym answered) in
     let s : Text = writeText t in
+    let N : ℕ = length (t .accounts) in
     let text : take n new ≡ s = ap (take n) (left ∙ rw (w .is)) ∙ take-at s (drop (length s) old) n (w .long) in
-    let back : readText (take n new) ≡ value t = ap readText text ∙ round-trip t (record { exercised = fe; draw = fd; accounts = fa; shorts = fh; same = w .same; few = w .few }) in
-    let into : readInto (take n new) (length A) (length H) ≡ value t
-    = rw (back, le-ltb (length A) (length (t .accounts)) roomA, le-ltb (length H) (length (t .accounts)) (omega (arith, w .same))) in
-    (reads ∙ rw into, ra ∙ rw into, rh ∙ rw into)
+    let back : readText (take n new) ≡ value t
+    = ap readText text ∙ round-trip t (record { exercised = fe; draw = fd; codes = fc; accounts = fa; shorts = fh; lists = w .lists }) (w .fits) in
+    let into : readInto (take n new) (length C) (length A) (length H) ≡ value t
+    = rw (back, le-ltb (length C) N (omega (arith, w .lists .codes)), le-ltb (length A) N roomA, le-ltb (length H) N (omega (arith, w .lists .shorts))) in
+    (reads ∙ rw into, rc ∙ rw into, ra ∙ rw into, rh ∙ rw into)

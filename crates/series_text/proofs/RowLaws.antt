@@ -1,16 +1,18 @@
 -- A line of fields that spell numbers reads as these numbers, what reads as a row is such a line, and how long the line that is written is; the same of lines of rows.
 use Prim.Native.Nat.{ℕ, zero, suc, _+_, _*_, _≤_, _<_}
-use mathlib.Core.Path.{_≡_, refl, sym, ap, subst, _∙_}
+use mathlib.Core.Path.{_≡_, refl, sym, ap, ap₂, subst, _∙_}
 use mathlib.Core.Bool.{Bool, true, false, cond}
 use mathlib.Core.List.{List, [], _∷_, _++_, map, append-assoc}
 use native.Mathlib.Omega.{arith}
 use native.Mathlib.Nat.{mul-suc}
 use borrow.Author.Tests.{eqb-true}
 use lib.Dec.{eqb}
-use lib.ListN.{length, getD, drop, length-append, length-map}
+use lib.ListN.{length, getD, drop, length-append, length-map, drop-of-length-le, List·getD-map}
+use lib.Seq.{drop-cons}
 use Rattle.series.specs.Results.{refused, value, _>>=_}
 use Rattle.series.specs.Sums.{listed}
 use Rattle.series.proofs.ResultLaws.{never, value-is, stepped}
+use Rattle.series.proofs.SumLaws.{listed-cong}
 use Rattle.series_text.specs.Numbers.{LARGEST, MOST_DIGITS, digits, number, decimal}
 use Rattle.series_text.specs.Fields.{Text, Read, ends, field, past, fieldBy, endBefore, readFields, writeNumber}
 use Rattle.series_text.specs.Rows.{numbers, readRow, readRows, writeRow, writeRows, rowOf, rowsOf, column}
@@ -42,6 +44,11 @@ Each P (a ∷ l) = P a × Each P l
 pub each-so : {A : Type 0} (P Q : A → Type 0) (l : List A) → ((a : A) → P a → Q a) → Each P l → Each Q l
 each-so P Q [] h each = tt
 each-so P Q (a ∷ l) h each = (h a (each .0), each-so P Q l h (each .1))
+
+each-at : {A : Type 0} (P : A → Type 0) (l : List A) (d : A) (i : ℕ) → Each P l → i < length l → P (getD l i d)
+each-at P [] d i each lt = absurd (omega arith)
+each-at P (a ∷ l) d zero each lt = each .0
+each-at P (a ∷ l) d (suc i) each lt = each-at P l d i (each .1) (omega arith)
 
 -- ---- a line of fields
 
@@ -345,21 +352,34 @@ rows-each P (c ∷ cs) h = each-listed P (rowOf (c ∷ cs)) (length c) h
 pub rows-fit : (cs : List (List ℕ)) → Each Fits cs → Each (Figures (length cs)) (rowsOf cs)
 rows-fit cs each = rows-each (Figures (length cs)) cs (λ i. fits-row cs i each)
 
-pub listed-head : {A : Type 0} (f : ℕ → A) (n : ℕ) → listed f (suc n) ≡ f 0 ∷ listed (λ i. f (suc i)) n
+listed-head : {A : Type 0} (f : ℕ → A) (n : ℕ) → listed f (suc n) ≡ f 0 ∷ listed (λ i. f (suc i)) n
 unfolding listed
 listed-head f zero = refl
 listed-head f (suc n) = ap (λ (l : List _). l ++ (f (suc n) ∷ [])) (listed-head f n)
 
--- the first row apart
-pub rows-cons : (a h : ℕ) (xs hs : List ℕ) → rowsOf ((a ∷ xs) ∷ (h ∷ hs) ∷ []) ≡ (a ∷ h ∷ []) ∷ rowsOf (xs ∷ hs ∷ [])
-unfolding rowsOf
-rows-cons a h xs hs = listed-head (rowOf ((a ∷ xs) ∷ (h ∷ hs) ∷ [])) (length xs)
+-- the rows one by one
+listed-rows : (rows : List (List ℕ)) → listed (λ i. getD rows i []) (length rows) ≡ rows
+unfolding listed
+listed-rows [] = refl
+listed-rows (r ∷ rows) = listed-head (λ i. getD (r ∷ rows) i []) (length rows) ∙ ap (λ (l : List (List ℕ)). r ∷ l) (listed-rows rows)
 
--- rows of two numbers are the rows of their columns
-pub rows-of-columns : (rows : List (List ℕ)) → Each (λ r. length r ≡ 2) rows → rowsOf (column 0 rows ∷ column 1 rows ∷ []) ≡ rows
-unfolding column rowsOf listed
-rows-of-columns [] each = refl
-rows-of-columns ([] ∷ rows) each = absurd (omega arith)
-rows-of-columns ((a ∷ []) ∷ rows) each = absurd (omega arith)
-rows-of-columns ((a ∷ h ∷ []) ∷ rows) each = rows-cons a h (column 0 rows) (column 1 rows) ∙ ap (λ (l : List (List ℕ)). (a ∷ h ∷ []) ∷ l) (rows-of-columns rows (each .1))
-rows-of-columns ((a ∷ h ∷ b ∷ r) ∷ rows) each = absurd (omega arith)
+-- k columns of the rows, from column j on
+unfoldable pub columnsFrom : ℕ → ℕ → List (List ℕ) → List (List ℕ)
+columnsFrom j zero rows = []
+columnsFrom j (suc k) rows = column j rows ∷ columnsFrom (suc j) k rows
+
+-- row i of them is row i, from number j on
+row-of-columns : (j k : ℕ) (rows : List (List ℕ)) (i : ℕ) → length (getD rows i []) ≡ j + k → rowOf (columnsFrom j k rows) i ≡ drop j (getD rows i [])
+unfolding column columnsFrom
+row-of-columns j zero rows i e = let short : length (getD rows i []) ≤ j = omega arith in sym (drop-of-length-le (getD rows i []) short)
+row-of-columns j (suc k) rows i e =
+    ap₂ _∷_ (List·getD-map (λ r. getD r j 0) rows i []) (row-of-columns (suc j) k rows i (omega arith)) ∙ sym (drop-cons (getD rows i []) j 0 (omega arith))
+
+-- rows of k numbers are the rows of their k columns
+pub rows-of-columns : (k : ℕ) (rows : List (List ℕ)) → 1 ≤ k → Each (λ r. length r ≡ k) rows → rowsOf (columnsFrom 0 k rows) ≡ rows
+unfolding column rowsOf columnsFrom
+rows-of-columns zero rows some each = absurd (omega arith)
+rows-of-columns (suc k) rows some each =
+    rw (length-map rows (λ r. getD r 0 0))
+    (listed-cong (rowOf (columnsFrom 0 (suc k) rows)) (λ i. getD rows i []) (length rows) (λ i lt. row-of-columns 0 (suc k) rows i (each-at (λ r. length r ≡ suc k) rows [] i each lt ∙ omega arith))
+    ∙ listed-rows rows)

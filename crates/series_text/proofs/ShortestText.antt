@@ -1,29 +1,33 @@
 -- A text that reads as a series spells its numbers. So what is read, written and read again is the same series, and what is written is the shortest text of all that read so.
-use Prim.Native.Nat.{ℕ, zero, suc, _+_, _≤_}
+use Prim.Native.Nat.{ℕ, zero, suc, _+_, _≤_, _<_}
 use mathlib.Core.Path.{_≡_, refl, sym, ap, ap₂, subst, _∙_}
-use mathlib.Core.Bool.{Bool, true, false, cond}
+use mathlib.Core.Bool.{Bool, true, false, cond, true≢false}
 use mathlib.Core.List.{List, [], _∷_, _++_, append-assoc}
 use native.Mathlib.Omega.{arith}
-use borrow.Author.Tests.{eqb-true}
+use native.Mathlib.Numerals.{add-one}
+use borrow.Author.Tests.{eqb-true, ltb-false}
 use lib.Dec.{eqb, ltb}
 use lib.ListN.{length, getD, length-append, length-map}
+use Rattle.series.specs.Ascii.{ascii}
 use Rattle.series.specs.Results.{Result, refused, value, refuse}
 use Rattle.series.specs.Series.{Series, exercised, draw}
+use Rattle.series.specs.Sums.{listed}
 use Rattle.series.specs.declared.Method.{Method}
 use Rattle.series.specs.declared.Terms.{Terms}
 use Rattle.series.proofs.ResultLaws.{never, value-is, stepped, not-refused}
 use Rattle.series_text.specs.Numbers.{decimal}
 use Rattle.series_text.specs.Fields.{Text, COMMA, Read, fieldBy, endBefore, readFields, writeNumber}
-use Rattle.series_text.specs.Rows.{numbers, readRows, writeRow, writeRows, rowsOf, column}
-use Rattle.series_text.specs.Names.{line1, line3, namesLine, afterLine, headingOr, readNames}
+use Rattle.series_text.specs.Rows.{numbers, readRows, writeRow, writeRows, rowOf, rowsOf, column}
+use Rattle.series_text.specs.Names.{line1, line3, namesLine, headingOf, coded, afterLine, headingOr, readNames}
 use Rattle.series_text.specs.Letters.{letter, methodBy, methodOf}
-use Rattle.series_text.specs.Text.{MOST_BYTES, MOST_LINES, readTerms, readHead, readText, writeTerms, writeHead, columns, writeText}
+use Rattle.series_text.specs.Text.{MOST_BYTES, MOST_LINES, readTerms, Head, readHead, lineWidth, seriesOf, readPositions, readText, writeTerms, writeHead, columns, textWith, writesCodes, writeText}
 use Rattle.series_text.specs.declared.names.Heading.{Heading}
 use Rattle.series_text.proofs.NumberLaws.{padded, padded-length}
 use Rattle.series_text.proofs.SpellingLaws.{Spells}
-use Rattle.series_text.proofs.RowLaws.{Fits, Each, each-so, Figures, Begins, field-is, fields-are, fieldsLine, FieldsSpell, numbers-are, spell-facts, fieldsLines, LinesSpell, spell-figures, Consists, rows-are, rows-of-columns}
-use Rattle.series_text.proofs.ColumnLaws.{column-first, column-second, two-numbers}
-use Rattle.series_text.proofs.RoundTrip.{Writable, spelledTerms, spelledHead, spelledText, TextSpells, round-trip}
+use Rattle.series_text.proofs.RowLaws.{Fits, Each, each-so, Figures, Begins, field-is, fields-are, fieldsLine, FieldsSpell, numbers-are, spell-facts, fieldsLines, LinesSpell, spell-figures, Consists, rows-are, columnsFrom, rows-of-columns}
+use Rattle.series_text.proofs.ColumnLaws.{two-numbers}
+use Rattle.series_text.proofs.LengthLaws.{linesOf, lines-next-length, length-head}
+use Rattle.series_text.proofs.RoundTrip.{Lists, Writable, Plain, spelledTerms, spelledHead, spelledText, TextSpells, width-some, series-back, plain-codes, round-trip}
 
 -- ---- a names line
 
@@ -37,16 +41,17 @@ after-is (a ∷ p) (b ∷ s) u e = go (after-is p s u) (eqb a b) refl e
     go h true same f = let is : a ≡ b = eqb-true a b same in let rest : s ≡ p ++ u = h f in cc
     go h false other f = absurd (never 12 u f)
 
--- the one heading that is known
-names-are : (h : Heading) (s : Text) (x : Read Heading) → readNames (h ∷ []) s ≡ value x → s ≡ namesLine h ++ x .rest
+-- the text is the line of the heading that was found, and then what is left
+names-are : (line : Heading → Text) (known : List Heading) (s : Text) (x : Read Heading) → Each (λ h. namesLine h ≡ line h) known → readNames known s ≡ value x → s ≡ line (x .found) ++ x .rest
 unfolding readNames headingOr
-names-are h s x e = go (afterLine (namesLine h) s) refl e
+names-are line [] s x each e = absurd (never 12 x e)
+names-are line (h ∷ known) s x each e = go (names-are line known s x (each .1)) (afterLine (namesLine h) s) refl e
   where
-    go : (r : Result Text) → afterLine (namesLine h) s ≡ r → headingOr h r (refused 12) ≡ value x → s ≡ namesLine h ++ x .rest
-    go (refused n) line f = absurd (never 12 x f)
-    go (value u) line f =
+    go : (readNames known s ≡ value x → s ≡ line (x .found) ++ x .rest) → (r : Result Text) → afterLine (namesLine h) s ≡ r → headingOr h r (readNames known s) ≡ value x → s ≡ line (x .found) ++ x .rest
+    go others (refused n) found f = others f
+    go others (value u) found f =
         let is : _≡_ {A = Read Heading} (record { found = h; rest = u }) x = value-is f in
-        after-is (namesLine h) s u line ∙ ap (λ (y : Read Heading). namesLine h ++ y .rest) is
+        after-is (namesLine h) s u found ∙ ap (λ (l : Text). l ++ u) (each .0) ∙ ap (λ (y : Read Heading). line (y .found) ++ y .rest) is
 
 -- ---- line 2
 
@@ -71,13 +76,13 @@ method-is (b ∷ []) m e = wheel (eqb b (letter Method.Wheel)) refl e
     wheel true same f = is Method.Wheel same f
     wheel false other f = prorata (eqb b (letter Method.ProRata)) refl f
 
--- the text s begins with what `top` makes of a method and of fields that spell S and the draw, and x is what was read of it
-record Starts (top : Method → List Text → Text) (s : Text) (x : Read Terms) : Type 0 where
+-- the text s begins with what `top` makes of the method and of fields that spell S and the draw, and then what is left
+record Starts (top : Method → List Text → Text) (s : Text) (t : Terms) (rest : Text) : Type 0 where
   fields : List Text
-  text : s ≡ top (x .found .method) fields ++ x .rest
-  spells : FieldsSpell fields (x .found .exercised .0 ∷ x .found .draw ∷ [])
+  text : s ≡ top (t .method) fields ++ rest
+  spells : FieldsSpell fields (t .exercised .0 ∷ t .draw ∷ [])
 
-terms-are : (s : Text) (x : Read Terms) → readTerms s ≡ value x → Starts spelledTerms s x
+terms-are : (s : Text) (x : Read Terms) → readTerms s ≡ value x → Starts spelledTerms s (x .found) (x .rest)
 unfolding readTerms spelledTerms
 terms-are s x h =
     let m = stepped (fieldBy COMMA s) _ x h in
@@ -89,7 +94,7 @@ terms-are s x h =
     let line : Begins 2 (m .from .rest) (fs .from) = fields-are 2 (m .from .rest) (fs .from) (fs .step) in
     let so : FieldsSpell (fs .from .found) (ns .from) = numbers-are (fs .from .found) (ns .from) (ns .step) in
     let two : ns .from ≡ getD (ns .from) 0 0 ∷ getD (ns .from) 1 0 ∷ [] = sym (two-numbers (ns .from) (omega (arith, spell-facts (fs .from .found) (ns .from) so .long, line .long))) in
-    subst (Starts spelledTerms s) is
+    subst (λ (y : Read Terms). Starts spelledTerms s (y .found) (y .rest)) is
     (record {
       fields = fs .from .found;
       text = field-is COMMA s (m .from) (m .step)
@@ -100,63 +105,90 @@ terms-are s x h =
 
 -- ---- lines 1 to 3
 
-head-is : (s : Text) (x : Read Terms) → readHead s ≡ value x → Starts spelledHead s x
+-- a text taken apart three times
+three-parts : (s a b first second third rest : Text) → s ≡ first ++ a → a ≡ second ++ b → b ≡ third ++ rest → s ≡ (first ++ (second ++ third)) ++ rest
+three-parts s a b first second third rest e f g = e ∙ rw (f, g) (simp append-assoc)
+
+-- lines 1 to 3 of a text that reads as a head spell its numbers, in its form
+head-is : (s : Text) (x : Read Head) → readHead s ≡ value x → Starts (spelledHead (x .found .coded)) s (x .found .terms) (x .rest)
 unfolding readHead spelledHead
 head-is s x h =
     let short = stepped (refuse (ltb MOST_BYTES (length s)) 11 s) _ x h in
     let names = stepped (readNames line1 (short .from)) _ x (short .on) in
     let t = stepped (readTerms (names .from .rest)) _ x (names .on) in
     let lines = stepped (readNames line3 (t .from .rest)) _ x (t .on) in
-    let is : _≡_ {A = Read Terms} (record { found = t .from .found; rest = lines .from .rest }) x = value-is (lines .on) in
-    let terms : Starts spelledTerms (names .from .rest) (t .from) = terms-are (names .from .rest) (t .from) (t .step) in
+    let is : _≡_ {A = Read Head} (record { found = record { terms = t .from .found; coded = coded (lines .from .found) }; rest = lines .from .rest }) x = value-is (lines .on) in
+    let terms : Starts spelledTerms (names .from .rest) (t .from .found) (t .from .rest) = terms-are (names .from .rest) (t .from) (t .step) in
     let first : Text = namesLine Heading.Terms in
     let second : Text = spelledTerms (t .from .found .method) (terms .fields) in
-    let third : Text = namesLine Heading.Positions in
-    let joined : first ++ (second ++ (third ++ lines .from .rest)) ≡ (first ++ (second ++ third)) ++ lines .from .rest = simp append-assoc in
-    subst (Starts spelledHead s) is
+    let third : Text = namesLine (headingOf (coded (lines .from .found))) in
+    let whole : s ≡ short .from = not-refused (ltb MOST_BYTES (length s)) 11 s (short .from) (short .step) .1 in
+    subst (λ (y : Read Head). Starts (spelledHead (y .found .coded)) s (y .found .terms) (y .rest)) is
     (record {
       fields = terms .fields;
-      text = not-refused (ltb MOST_BYTES (length s)) 11 s (short .from) (short .step) .1
-          ∙ names-are Heading.Terms (short .from) (names .from) (names .step)
-          ∙ ap (λ (l : Text). first ++ l) (terms .text)
-          ∙ ap (λ (l : Text). first ++ (second ++ l)) (names-are Heading.Positions (t .from .rest) (lines .from) (lines .step))
-          ∙ joined;
+      text = three-parts s (names .from .rest) (t .from .rest) first second third (lines .from .rest) (whole ∙ names-are (λ _. first) line1 (short .from) (names .from) (refl, tt) (names .step)) (terms .text)
+          (names-are (λ h. namesLine (headingOf (coded h))) line3 (t .from .rest) (lines .from) (refl, (refl, tt)) (lines .step));
       spells = terms .spells;
     })
 
+-- a text that reads as a series is not too long
+pub read-fits : (s : Text) (t : Series) → readText s ≡ value t → length s ≤ MOST_BYTES
+unfolding readText readHead
+read-fits s t h =
+    let top = stepped (readHead s) _ t h in
+    let short = stepped (refuse (ltb MOST_BYTES (length s)) 11 s) _ (top .from) (top .step) in
+    ltb-false MOST_BYTES (length s) (not-refused (ltb MOST_BYTES (length s)) 11 s (short .from) (short .step) .0)
+
 -- ---- the text
 
--- the text s spells the numbers of the series t
+-- the text s spells the numbers of the series t, with the code column or without it
 pub record Reads (s : Text) (t : Series) : Type 0 where
+  pub coded : Bool
   pub terms : List Text
   pub lines : List (List Text)
-  pub text : s ≡ spelledText (t .terms .method) terms lines
-  pub spells : TextSpells t terms lines
+  pub text : s ≡ spelledText coded (t .terms .method) terms lines
+  pub spells : TextSpells coded t terms lines
+
+-- what is known of a series r that was made of rows
+record OfRows (c : Bool) (t : Terms) (rows : List (List ℕ)) (r : Series) : Type 0 where
+  terms : r .terms ≡ t
+  columns : columns c r ≡ columnsFrom 0 (lineWidth c) rows
+  plain : Plain c r
+  lists : Lists r
+
+column-long : (j : ℕ) (rows : List (List ℕ)) → length (column j rows) ≡ length rows
+unfolding column
+column-long j rows = length-map rows (λ r. getD r j 0)
+
+-- the series of rows with a code column or without one
+of-rows : (c : Bool) (t : Terms) (rows : List (List ℕ)) → length rows ≤ MOST_LINES → OfRows c t rows (seriesOf c t rows)
+unfolding columnsFrom
+of-rows true t rows few = record { terms = refl; columns = refl; plain = λ e. absurd (true≢false e); lists = omega (arith, column-long 0 rows, column-long 1 rows, column-long 2 rows) }
+of-rows false t rows few = record { terms = refl; columns = refl; plain = λ _. refl; lists = omega (arith, column-long 0 rows, column-long 1 rows) }
 
 -- a text that reads as a series spells its numbers
 pub text-is : (s : Text) (t : Series) → readText s ≡ value t → Reads s t
-unfolding readText spelledText column
+unfolding readText readPositions spelledText
 text-is s t h =
     let top = stepped (readHead s) _ t h in
-    let ps = stepped (readRows MOST_LINES 2 (top .from .rest)) _ t (top .on) in
-    let is : _≡_ {A = Series} (record { terms = top .from .found; accounts = column 0 (ps .from); shorts = column 1 (ps .from) }) t = value-is (ps .on) in
-    let head : Starts spelledHead s (top .from) = head-is s (top .from) (top .step) in
-    let body : Consists MOST_LINES 2 (top .from .rest) (ps .from) = rows-are MOST_LINES 2 (top .from .rest) (ps .from) (ps .step) in
-    let two : Each (λ r. length r ≡ 2) (ps .from) = each-so (Figures 2) (λ r. length r ≡ 2) (ps .from) (λ r row. row .long) (spell-figures 2 (body .fields) (ps .from) (body .spells)) in
-    subst (Reads s) is
-    (record {
+    let T : Terms = top .from .found .terms in
+    let c : Bool = top .from .found .coded in
+    let k : ℕ = lineWidth c in
+    let ps = stepped (readRows MOST_LINES k (top .from .rest)) _ t (top .on) in
+    let body : Consists MOST_LINES k (top .from .rest) (ps .from) = rows-are MOST_LINES k (top .from .rest) (ps .from) (ps .step) in
+    let of : OfRows c T (ps .from) t = subst (OfRows c T (ps .from)) (value-is (ps .on)) (of-rows c T (ps .from) (body .few)) in
+    let head : Starts (spelledHead c) s (t .terms) (top .from .rest) = subst (λ (t : Terms). Starts (spelledHead c) s t (top .from .rest)) (sym (of .terms)) (head-is s (top .from) (top .step)) in
+    let long : Each (λ r. length r ≡ k) (ps .from) = each-so (Figures k) (λ r. length r ≡ k) (ps .from) (λ r row. row .long) (spell-figures k (body .fields) (ps .from) (body .spells)) in
+    let rows : rowsOf (columns c t) ≡ ps .from = ap rowsOf (of .columns) ∙ rows-of-columns k (ps .from) (width-some c) long in
+    record {
+      coded = c;
       terms = head .fields;
       lines = body .fields;
-      text = head .text ∙ ap (λ (l : Text). spelledHead (top .from .found .method) (head .fields) ++ l) (body .text);
-      spells = record {
-        values = head .spells;
-        rows = subst (LinesSpell 2 (body .fields)) (sym (rows-of-columns (ps .from) two)) (body .spells);
-        same = simp length-map;
-        few = rw length-map (body .few);
-      };
-    })
+      text = head .text ∙ ap (λ (l : Text). spelledHead c (t .terms .method) (head .fields) ++ l) (body .text);
+      spells = record { values = head .spells; rows = rw rows (body .spells); plain = of .plain; lists = of .lists };
+    }
 
--- ---- what is read, written and read again
+-- ---- a series whose numbers are spelled can be written
 
 column-fits : (k j : ℕ) (rows : List (List ℕ)) → Each (Figures k) rows → Fits (column j rows)
 unfolding column
@@ -164,23 +196,20 @@ column-fits k j [] each i = omega arith
 column-fits k j (r ∷ rows) each zero = each .0 .fits j
 column-fits k j (r ∷ rows) each (suc i) = column-fits k j rows (each .1) i
 
--- a series whose numbers are spelled can be written
-spells-writable : (t : Series) (terms : List Text) (lines : List (List Text)) → TextSpells t terms lines → Writable t
-spells-writable t terms lines so =
-    let values : Fits (exercised t ∷ draw t ∷ []) = spell-facts terms (exercised t ∷ draw t ∷ []) (so .values) .fits in
-    let rows : Each (Figures 2) (rowsOf (columns t)) = spell-figures 2 lines (rowsOf (columns t)) (so .rows) in
-    record {
-      exercised = values 0;
-      draw = values 1;
-      accounts = subst Fits (column-first (t .accounts) (t .shorts)) (column-fits 2 0 (rowsOf (columns t)) rows);
-      shorts = subst Fits (column-second (t .accounts) (t .shorts) (so .same)) (column-fits 2 1 (rowsOf (columns t)) rows);
-      same = so .same;
-      few = so .few;
-    }
+-- every number of the positions fits 32 bits
+abbrev AllFit : Series → Type 0
+AllFit t = Fits (t .codes) × Fits (t .accounts) × Fits (t .shorts)
 
--- what is read, written and read again is the same series
-pub read-again : (s : Text) (t : Series) → readText s ≡ value t → readText (writeText t) ≡ value t
-read-again s t h = let is : Reads s t = text-is s t h in round-trip t (spells-writable t (is .terms) (is .lines) (is .spells))
+series-fits : (c : Bool) (t : Terms) (rows : List (List ℕ)) → Each (Figures (lineWidth c)) rows → AllFit (seriesOf c t rows)
+series-fits true t rows each = (column-fits 3 0 rows each, column-fits 3 1 rows each, column-fits 3 2 rows each)
+series-fits false t rows each = (column-fits 2 0 rows each, column-fits 2 0 rows each, column-fits 2 1 rows each)
+
+spells-writable : (c : Bool) (t : Series) (terms : List Text) (lines : List (List Text)) → TextSpells c t terms lines → Writable t
+spells-writable c t terms lines so =
+    let values : Fits (exercised t ∷ draw t ∷ []) = spell-facts terms (exercised t ∷ draw t ∷ []) (so .values) .fits in
+    let rows : List (List ℕ) = rowsOf (columns c t) in
+    let fits : AllFit t = subst AllFit (series-back c t (so .plain) (so .lists)) (series-fits c (t .terms) rows (spell-figures (lineWidth c) lines rows (so .rows))) in
+    record { exercised = values 0; draw = values 1; codes = fits .0; accounts = fits .1; shorts = fits .2; lists = so .lists }
 
 -- ---- the shortest text
 
@@ -228,19 +257,61 @@ lines-shortest k [] (r ∷ rows) so = absurd so
 lines-shortest k (fs ∷ fss) [] so = absurd so
 lines-shortest k (fs ∷ fss) (r ∷ rows) so = both-parts (writeRow r) (fieldsLine fs) (writeRows rows) (fieldsLines fss) (line-shortest fs r (so .0)) (lines-shortest k fss rows (so .2))
 
--- the text that is written is no longer than any that reads as the same series, which has the same names lines; and one that is as short is the same text
-pub shortest : (s : Text) (t : Series) → readText s ≡ value t → ShorterOrSame (writeText t) s
-unfolding writeText writeHead writeTerms spelledText spelledHead spelledTerms
-shortest s t h =
-    let is : Reads s t = text-is s t h in
+-- a text of a series is no longer than one that spells its numbers, in the same form
+spelled-shortest : (c : Bool) (t : Series) (terms : List Text) (lines : List (List Text)) → TextSpells c t terms lines → ShorterOrSame (textWith c t) (spelledText c (t .terms .method) terms lines)
+unfolding textWith writeHead writeTerms spelledText spelledHead spelledTerms
+spelled-shortest c t terms lines so =
     let first : Text = namesLine Heading.Terms in
-    let third : Text = namesLine Heading.Positions in
+    let third : Text = namesLine (headingOf c) in
     let front : Text = letter (t .terms .method) ∷ COMMA ∷ [] in
     let row : Text = writeRow (exercised t ∷ draw t ∷ []) in
-    let line : Text = fieldsLine (is .terms) in
-    let terms : ShorterOrSame (front ++ row) (front ++ line) = both-parts front front row line (same-text front) (line-shortest (is .terms) (exercised t ∷ draw t ∷ []) (is .spells .values)) in
+    let line : Text = fieldsLine terms in
+    let second : ShorterOrSame (front ++ row) (front ++ line) = both-parts front front row line (same-text front) (line-shortest terms (exercised t ∷ draw t ∷ []) (so .values)) in
     let head : ShorterOrSame (first ++ ((front ++ row) ++ third)) (first ++ ((front ++ line) ++ third))
-    = both-parts first first ((front ++ row) ++ third) ((front ++ line) ++ third) (same-text first) (both-parts (front ++ row) (front ++ line) third third terms (same-text third)) in
-    subst (ShorterOrSame (writeText t)) (sym (is .text))
-    (both-parts (first ++ ((front ++ row) ++ third)) (first ++ ((front ++ line) ++ third)) (writeRows (rowsOf (columns t))) (fieldsLines (is .lines)) head
-    (lines-shortest 2 (is .lines) (rowsOf (columns t)) (is .spells .rows)))
+    = both-parts first first ((front ++ row) ++ third) ((front ++ line) ++ third) (same-text first) (both-parts (front ++ row) (front ++ line) third third second (same-text third)) in
+    both-parts (first ++ ((front ++ row) ++ third)) (first ++ ((front ++ line) ++ third)) (writeRows (rowsOf (columns c t))) (fieldsLines lines) head
+    (lines-shortest (lineWidth c) lines (rowsOf (columns c t)) (so .rows))
+
+-- lines that are no longer each are no longer together
+lines-mono : (f g : ℕ → List ℕ) (n : ℕ) → ((i : ℕ) → length (writeRow (f i)) ≤ length (writeRow (g i))) → length (linesOf f n) ≤ length (linesOf g n)
+unfolding listed writeRows
+lines-mono f g zero le = omega arith
+lines-mono f g (suc n) le = omega (arith, rw (add-one n) at (lines-next-length f n), rw (add-one n) at (lines-next-length g n), le n, lines-mono f g n le)
+
+-- the lines of columns with one more before them are no shorter
+column-more : (d c : List ℕ) (cs : List (List ℕ)) → length d ≡ length c → length (writeRows (rowsOf (c ∷ cs))) ≤ length (writeRows (rowsOf (d ∷ c ∷ cs)))
+unfolding rowsOf writeRow
+column-more d c cs e =
+    rw e (lines-mono (rowOf (c ∷ cs)) (rowOf (d ∷ c ∷ cs)) (length c) (λ i. let row = rowOf (c ∷ cs) i in omega (arith, length-append (writeNumber (getD d i 0) (endBefore (length row))) (writeRow row))))
+
+-- the code column makes a text longer
+codes-longer : (t : Series) → Lists t → length (textWith false t) < length (textWith true t)
+unfolding textWith namesLine ascii
+codes-longer t l =
+    let lines : Bool → Text = λ c. writeRows (rowsOf (columns c t)) in
+    omega (arith, length-append (writeHead true (t .terms)) (lines true), length-append (writeHead false (t .terms)) (lines false), length-head true (t .terms), length-head false (t .terms), column-more (t .codes) (t .accounts) (t .shorts ∷ []) (l .codes))
+
+-- the form that is written is the shorter of those that read as the series
+form-shortest : (c : Bool) (t : Series) → Plain c t → Lists t → ShorterOrSame (writeText t) (textWith c t)
+unfolding writeText
+form-shortest c t plain l = go c (writesCodes t) refl plain
+  where
+    go : (c w : Bool) → writesCodes t ≡ w → Plain c t → ShorterOrSame (textWith w t) (textWith c t)
+    go true true e plain = same-text (textWith true t)
+    go false false e plain = same-text (textWith false t)
+    go true false e plain = record { most = omega (arith, codes-longer t l); only = λ le. absurd (omega (arith, codes-longer t l)) }
+    go false true e plain = absurd (true≢false (sym e ∙ plain-codes t (plain refl)))
+
+-- the text that is written is no longer than any that reads as the same series; and one that is as short is the same text
+pub shortest : (s : Text) (t : Series) → readText s ≡ value t → ShorterOrSame (writeText t) s
+shortest s t h =
+    let is : Reads s t = text-is s t h in
+    let form = form-shortest (is .coded) t (is .spells .plain) (is .spells .lists) in
+    let fields = spelled-shortest (is .coded) t (is .terms) (is .lines) (is .spells) in
+    rw (is .text) (record { most = omega arith; only = λ le. fields .only (omega arith) ∙ form .only (omega arith) })
+
+-- what is read, written and read again is the same series
+pub read-again : (s : Text) (t : Series) → readText s ≡ value t → readText (writeText t) ≡ value t
+read-again s t h =
+    let is : Reads s t = text-is s t h in
+    round-trip t (spells-writable (is .coded) t (is .terms) (is .lines) (is .spells)) (omega (arith, shortest s t h .most, read-fits s t h))

@@ -10,7 +10,7 @@ use Rattle.series.specs.Series.{Series}
 use Rattle.series.specs.declared.Terms.{Terms}
 use Rattle.series_text.specs.Fields.{Text}
 use Rattle.series_text.specs.Rows.{writeRows, rowsOf}
-use Rattle.series_text.specs.Text.{MOST_LINES, readText, writeHead, columns}
+use Rattle.series_text.specs.Text.{MOST_BYTES, MOST_LINES, readText, writeHead, writesCodes, columns}
 use Rattle.series_text.specs.declared.Reading.{Reading}
 
 -- what reading hands back: the values of line 2 and the number of positions
@@ -24,10 +24,10 @@ readingOf (Reading.Series t n) = value (record { terms = t; positions = n })
 readingOf (Reading.Refused r) = refused (numberOf r)
 
 -- reading a text into lists of these lengths: last of all 4, where one is shorter than the positions
-unfoldable pub readInto : Text → ℕ → ℕ → Result Series
-readInto s accounts shorts = do
+unfoldable pub readInto : Text → ℕ → ℕ → ℕ → Result Series
+readInto s codes accounts shorts = do
   t ← readText s
-  refuse (ltb accounts (length (t .accounts)) || ltb shorts (length (t .accounts))) 4 t
+  refuse (ltb codes (length (t .accounts)) || (ltb accounts (length (t .accounts)) || ltb shorts (length (t .accounts)))) 4 t
 
 -- what reading hands back of a series
 unfoldable pub handed : Result Series → Result Handed
@@ -45,16 +45,24 @@ unfoldable pub lineCount : List (List ℕ) → ℕ
 lineCount [] = 0
 lineCount (c ∷ cs) = length c
 
--- writing a head and a line for each row of the columns to an output of length room: 1 where the columns differ in length, then 15, then 4
+-- a head and a line for each row of the columns: 1 where the columns differ in length, then 15
+unfoldable pub headAndLines : Text → List (List ℕ) → Result Text
+headAndLines head cs = do
+  s ← refuse (not (evenly (lineCount cs) cs)) 1 (head ++ writeRows (rowsOf cs))
+  refuse (ltb MOST_LINES (lineCount cs)) 15 s
+
+-- writing them to an output of length room: then 4
 unfoldable pub linesInto : Text → List (List ℕ) → ℕ → Result Text
 linesInto head cs room = do
-  s ← refuse (not (evenly (lineCount cs) cs)) 1 (head ++ writeRows (rowsOf cs))
-  s ← refuse (ltb MOST_LINES (lineCount cs)) 15 s
-  refuse (ltb room (length s)) 4 s
+  lines ← headAndLines head cs
+  refuse (ltb room (length lines)) 4 lines
 
--- writing a series
+-- writing a series to an output of length room: 1, then 15, then 11 where the text would pass 32,768 bytes, then 4
 unfoldable pub writeInto : Series → ℕ → Result Text
-writeInto t room = linesInto (writeHead (t .terms)) (columns t) room
+writeInto t room = do
+  s ← headAndLines (writeHead (writesCodes t) (t .terms)) (columns (writesCodes t) t)
+  s ← refuse (ltb MOST_BYTES (length s)) 11 s
+  refuse (ltb room (length s)) 4 s
 
 -- writing a table: a names line as given, then a line for each account and its count
 unfoldable pub tableInto : Text → List ℕ → List ℕ → ℕ → Result Text

@@ -1,6 +1,6 @@
 -- The names lines: what each stands for.
 use Prim.Native.Nat.{ℕ}
-use mathlib.Core.Bool.{cond}
+use mathlib.Core.Bool.{Bool, true, false, cond}
 use mathlib.Core.List.{List, [], _∷_}
 use lib.Dec.{eqb}
 use Rattle.series.specs.Ascii.{ascii}
@@ -12,6 +12,7 @@ use Rattle.series_text.specs.declared.names.Heading.{Heading}
 unfoldable pub namesLine : Heading → Text
 namesLine Heading.Terms = ascii "method,exercised,draw\n"
 namesLine Heading.Positions = ascii "account,short\n"
+namesLine Heading.CodedPositions = ascii "code,account,short\n"
 
 -- the headings that line 1 may have
 abbrev pub line1 : List Heading
@@ -19,7 +20,18 @@ line1 = Heading.Terms ∷ []
 
 -- the headings that line 3 may have
 abbrev pub line3 : List Heading
-line3 = Heading.Positions ∷ []
+line3 = Heading.Positions ∷ Heading.CodedPositions ∷ []
+
+-- the heading of position lines with a code, or without one
+abbrev pub headingOf : Bool → Heading
+headingOf true = Heading.CodedPositions
+headingOf false = Heading.Positions
+
+-- the heading stands for position lines with a code
+abbrev pub coded : Heading → Bool
+coded Heading.CodedPositions = true
+coded Heading.Positions = false
+coded Heading.Terms = false
 
 -- the text after the line p, else 12
 unfoldable pub afterLine : Text → Text → Result Text

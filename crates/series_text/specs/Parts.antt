@@ -3,16 +3,17 @@ use Prim.Native.Nat.{ℕ, _+_, _≤_, _<_}
 use mathlib.Core.Path.{_≡_}
 use mathlib.Core.Bool.{Bool, true, false}
 use mathlib.Core.List.{List, [], _∷_}
-use lib.ListN.{length, take, drop}
+use lib.ListN.{length, getD, take, drop}
 use lib.Seq.{slice}
 use Rattle.series.specs.Results.{Result, refused, value, _>>=_}
 use Rattle.series.specs.Answers.{numberOf}
+use Rattle.series.specs.Series.{Series}
 use Rattle.series.specs.declared.Method.{Method}
 use Rattle.series.specs.declared.Terms.{Terms}
 use Rattle.series_text.specs.Numbers.{number}
 use Rattle.series_text.specs.Fields.{Text, COMMA, Read, fieldBy}
-use Rattle.series_text.specs.Rows.{readRow, rowsOf}
-use Rattle.series_text.specs.Text.{MOST_LINES}
+use Rattle.series_text.specs.Rows.{readRow}
+use Rattle.series_text.specs.Text.{MOST_LINES, Head, lineWidth}
 use Rattle.series_text.specs.declared.number.Field.{Field}
 use Rattle.series_text.specs.declared.field.Line.{Line}
 use Rattle.series_text.specs.declared.field.Found.{Found}
@@ -21,6 +22,7 @@ use Rattle.series_text.specs.declared.names.Heading.{Heading}
 use Rattle.series_text.specs.declared.names.Names.{Names}
 use Rattle.series_text.specs.declared.letters.Named.{Named}
 use Rattle.series_text.specs.declared.lines.TermsLine.{TermsLine}
+use Rattle.series_text.specs.declared.lines.HeadLines.{HeadLines}
 use Rattle.series_text.specs.declared.lines.Positions.{Positions}
 
 -- the first field as a number, where the byte c ends it, else 13
@@ -82,10 +84,26 @@ abbrev pub termsMeans : Text → TermsLine → Result (Read Terms)
 termsMeans s (TermsLine.Terms t next) = value (record { found = t; rest = drop next s })
 termsMeans s (TermsLine.Refused r) = refused (numberOf r)
 
--- the rows that stand first in two lists
-abbrev pub positionsMean : List ℕ → List ℕ → Positions → Result (List (List ℕ))
-positionsMean accounts shorts (Positions.Read n) = value (rowsOf (take n accounts ∷ take n shorts ∷ []))
-positionsMean accounts shorts (Positions.Refused r) = refused (numberOf r)
+-- what lines 1 to 3 hold, with the text s from an index on
+abbrev pub headMeans : Text → HeadLines → Result (Read Head)
+headMeans s (HeadLines.Head t c next) = value (record { found = record { terms = t; coded = c }; rest = drop next s })
+headMeans s (HeadLines.Refused r) = refused (numberOf r)
+
+-- the numbers of a position line, its code first: without one of its own the code is the account
+abbrev pub withCode : Bool → List ℕ → List ℕ
+withCode true row = row
+withCode false row = getD row 0 0 ∷ row
+
+-- a position line as a code, an account and shorts, else 13
+unfoldable pub readPosition : Bool → Text → Result (Read (List ℕ))
+readPosition c s = do
+  r ← readRow (lineWidth c) s
+  value (record { found = withCode c (r .found); rest = r .rest })
+
+-- the series whose positions stand first in three lists
+abbrev pub positionsMean : Terms → List ℕ → List ℕ → List ℕ → Positions → Result Series
+positionsMean t codes accounts shorts (Positions.Read n) = value (record { terms = t; codes = take n codes; accounts = take n accounts; shorts = take n shorts })
+positionsMean t codes accounts shorts (Positions.Refused r) = refused (numberOf r)
 
 -- they are at most 1,024
 abbrev pub positionsWithin : Positions → Type 0

@@ -1,14 +1,15 @@
 -- The text of a series, read and written line by line.
 use Prim.Native.Nat.{ℕ}
 use mathlib.Core.List.{List, [], _∷_, _++_}
-use lib.Dec.{ltb}
+use mathlib.Core.Bool.{Bool, true, false, not, _&&_}
+use lib.Dec.{eqb, ltb}
 use lib.ListN.{length, getD}
 use Rattle.series.specs.Results.{Result, value, _>>=_, refuse}
 use Rattle.series.specs.Series.{Series}
 use Rattle.series.specs.declared.Terms.{Terms}
 use Rattle.series_text.specs.Fields.{Text, COMMA, Read, fieldBy, readFields}
 use Rattle.series_text.specs.Rows.{numbers, readRows, writeRow, writeRows, rowsOf, column}
-use Rattle.series_text.specs.Names.{line1, line3, namesLine, readNames}
+use Rattle.series_text.specs.Names.{line1, line3, namesLine, headingOf, coded, readNames}
 use Rattle.series_text.specs.Letters.{letter, methodOf}
 use Rattle.series_text.specs.declared.names.Heading.{Heading}
 
@@ -29,34 +30,73 @@ readTerms s = do
   ns ← numbers (fs .found)
   value (record { found = record { method = how; exercised = record { 0 = getD ns 0 0 }; draw = getD ns 1 0 }; rest = fs .rest })
 
--- lines 1 to 3 of a text that is not too long: the values of line 2, and the position lines
-unfoldable pub readHead : Text → Result (Read Terms)
+-- what lines 1 to 3 hold: the values of line 2, and whether each position line begins with a code
+pub record Head : Type 0 where
+  pub terms : Terms
+  pub coded : Bool
+
+-- lines 1 to 3 of a text that is not too long, and the position lines
+unfoldable pub readHead : Text → Result (Read Head)
 readHead s = do
   s ← refuse (ltb MOST_BYTES (length s)) 11 s
   names ← readNames line1 s
   t ← readTerms (names .rest)
   columns ← readNames line3 (t .rest)
-  value (record { found = t .found; rest = columns .rest })
+  value (record { found = record { terms = t .found; coded = coded (columns .found) }; rest = columns .rest })
+
+-- how many numbers a position line has: code, account and shorts, or account and shorts
+abbrev pub lineWidth : Bool → ℕ
+lineWidth true = 3
+lineWidth false = 2
+
+-- the series of position lines; with the short names line the code is the account number
+abbrev pub seriesOf : Bool → Terms → List (List ℕ) → Series
+seriesOf true t ps = record { terms = t; codes = column 0 ps; accounts = column 1 ps; shorts = column 2 ps }
+seriesOf false t ps = record { terms = t; codes = column 0 ps; accounts = column 0 ps; shorts = column 1 ps }
+
+-- the position lines after lines 1 to 3
+unfoldable pub readPositions : Head → Text → Result Series
+readPositions h s = do
+  ps ← readRows MOST_LINES (lineWidth (h .coded)) s
+  value (seriesOf (h .coded) (h .terms) ps)
 
 -- a text, its lines in the order of the text
 unfoldable pub readText : Text → Result Series
 readText s = do
-  t ← readHead s
-  ps ← readRows MOST_LINES 2 (t .rest)
-  value (record { terms = t .found; accounts = column 0 ps; shorts = column 1 ps })
+  h ← readHead s
+  readPositions (h .found) (h .rest)
 
 -- line 2
 unfoldable pub writeTerms : Terms → Text
 writeTerms t = letter (t .method) ∷ COMMA ∷ writeRow (t .exercised .0 ∷ t .draw ∷ [])
 
--- lines 1 to 3
-unfoldable pub writeHead : Terms → Text
-writeHead t = namesLine Heading.Terms ++ (writeTerms t ++ namesLine Heading.Positions)
+-- lines 1 to 3, for position lines with a code or without one
+unfoldable pub writeHead : Bool → Terms → Text
+writeHead c t = namesLine Heading.Terms ++ (writeTerms t ++ namesLine (headingOf c))
 
--- the columns of the position lines
-abbrev pub columns : Series → List (List ℕ)
-columns t = t .accounts ∷ t .shorts ∷ []
+-- the columns of the position lines, with the codes or without them
+abbrev pub columnsBy : Bool → List ℕ → List ℕ → List ℕ → List (List ℕ)
+columnsBy true codes accounts shorts = codes ∷ accounts ∷ shorts ∷ []
+columnsBy false codes accounts shorts = accounts ∷ shorts ∷ []
 
--- the text of a series
+abbrev pub columns : Bool → Series → List (List ℕ)
+columns c t = columnsBy c (t .codes) (t .accounts) (t .shorts)
+
+-- the text of a series, with the code column or without it
+unfoldable pub textWith : Bool → Series → Text
+textWith c t = writeHead c (t .terms) ++ writeRows (rowsOf (columns c t))
+
+-- the two lists hold the same numbers
+unfoldable pub sameNumbers : List ℕ → List ℕ → Bool
+sameNumbers [] [] = true
+sameNumbers [] (n ∷ ns) = false
+sameNumbers (m ∷ ms) [] = false
+sameNumbers (m ∷ ms) (n ∷ ns) = eqb m n && sameNumbers ms ns
+
+-- the code column is written: not every code is its account
+unfoldable pub writesCodes : Series → Bool
+writesCodes t = not (sameNumbers (t .codes) (t .accounts))
+
+-- the text of a series: the code column is left out exactly where the text without it reads back as the same series (`left-out` and `left-out-only` in RoundTrip)
 unfoldable pub writeText : Series → Text
-writeText t = writeHead (t .terms) ++ writeRows (rowsOf (columns t))
+writeText t = textWith (writesCodes t) t

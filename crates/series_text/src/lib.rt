@@ -1,4 +1,4 @@
-// The text of a series: what it is, and reading one into two lent lists.
+// The text of a series: what it is, and reading one into three lent lists.
 pub mod ends;
 mod field;
 pub mod letters;
@@ -7,8 +7,8 @@ pub mod names;
 mod number;
 mod row;
 
+use lines::HeadLines;
 use lines::Positions;
-use lines::TermsLine;
 use series::Refusal;
 use series::Terms;
 ghost use mathlib.Core.Path.{_≡_};
@@ -37,28 +37,41 @@ fn copy_first(source: &[u32], n: usize, target: &mut [u32])
     }
 }
 
-// Reads the text of a series into two lists. After a refusal both are as they were, and what stands past the positions is kept.
-pub fn read(text: &[u8], accounts: &mut [u32], shorts: &mut [u32]) -> Reading
-    ensures { λ r. ⌜ readingOf r ≡ handed (readInto (now (text .entry)) (length (now (accounts .entry))) (length (now (shorts .entry)))) ⌝ }
-    ensures { λ _. ⌜ now (accounts .exit) ≡ after (readInto (now (text .entry)) (length (now (accounts .entry))) (length (now (shorts .entry)))) (λ s. onto (s .accounts) (now (accounts .entry))) (now (accounts .entry)) ⌝ }
-    ensures { λ _. ⌜ now (shorts .exit) ≡ after (readInto (now (text .entry)) (length (now (accounts .entry))) (length (now (shorts .entry)))) (λ s. onto (s .shorts) (now (shorts .entry))) (now (shorts .entry)) ⌝ }
+// Reads the text of a series into three lists. After a refusal all are as they were, and what stands past the positions is kept.
+pub fn read(text: &[u8], codes: &mut [u32], accounts: &mut [u32], shorts: &mut [u32]) -> Reading
+    ensures { λ r. ⌜ readingOf r ≡ handed (readInto (now (text .entry)) (length (now (codes .entry))) (length (now (accounts .entry))) (length (now (shorts .entry)))) ⌝ }
+    ensures { λ _. ⌜ now (codes .exit) ≡ after (readInto (now (text .entry)) (length (now (codes .entry))) (length (now (accounts .entry))) (length (now (shorts .entry)))) (λ s. onto (s .codes) (now (codes .entry))) (now (codes .entry)) ⌝ }
+    ensures { λ _. ⌜ now (accounts .exit) ≡ after (readInto (now (text .entry)) (length (now (codes .entry))) (length (now (accounts .entry))) (length (now (shorts .entry)))) (λ s. onto (s .accounts) (now (accounts .entry))) (now (accounts .entry)) ⌝ }
+    ensures { λ _. ⌜ now (shorts .exit) ≡ after (readInto (now (text .entry)) (length (now (codes .entry))) (length (now (accounts .entry))) (length (now (shorts .entry)))) (λ s. onto (s .shorts) (now (shorts .entry))) (now (shorts .entry)) ⌝ }
 {
     let head = lines::read_head(text);
     match head {
-        TermsLine::Refused(refusal) => Reading::Refused(refusal),
-        TermsLine::Terms(terms, next) => {
+        HeadLines::Refused(refusal) => Reading::Refused(refusal),
+        HeadLines::Head(terms, coded, next) => {
             // The positions stand here until nothing can refuse any more.
+            let mut read_codes = [0u32; 1024];
             let mut read_accounts = [0u32; 1024];
             let mut read_shorts = [0u32; 1024];
-            match lines::read_positions(text, next, &mut read_accounts, &mut read_shorts) {
+            match lines::read_positions(
+                text,
+                next,
+                coded,
+                &mut read_codes,
+                &mut read_accounts,
+                &mut read_shorts,
+            ) {
                 Positions::Refused(refusal) => Reading::Refused(refusal),
                 Positions::Read(n) => {
+                    if codes.len() < n {
+                        return Reading::Refused(Refusal::OutputTooShort);
+                    }
                     if accounts.len() < n {
                         return Reading::Refused(Refusal::OutputTooShort);
                     }
                     if shorts.len() < n {
                         return Reading::Refused(Refusal::OutputTooShort);
                     }
+                    copy_first(&read_codes, n, codes);
                     copy_first(&read_accounts, n, accounts);
                     copy_first(&read_shorts, n, shorts);
                     Reading::Series {

@@ -5,6 +5,8 @@ use crate::letters::Named;
 use crate::letters::method_by;
 use crate::names::Heading;
 use crate::names::Names;
+use crate::names::is_coded;
+use crate::names::read_columns;
 use crate::names::read_names;
 use crate::row::RowEnd;
 use crate::row::has_fields;
@@ -18,14 +20,20 @@ ghost use lib.ListN.{length, drop};
 ghost use lib.Seq.{slice};
 ghost use Rattle.series.specs.Results.{refused};
 ghost use Rattle.series.specs.Answers.{numberOf};
+ghost use Rattle.series.specs.declared.Terms.{Terms as Terms·};
 ghost use Rattle.series_text.specs.Letters.{methodOf};
-ghost use Rattle.series_text.specs.Rows.{readRows};
-ghost use Rattle.series_text.specs.Text.{readTerms, readHead, MOST_LINES};
-ghost use Rattle.series_text.specs.Parts.{namedMeans, TermsMalformed, termsMeans, positionsMean, positionsWithin};
+ghost use Rattle.series_text.specs.Text.{readTerms, readHead, readPositions, MOST_LINES};
+ghost use Rattle.series_text.specs.Parts.{namedMeans, rowMeans, TermsMalformed, termsMeans, headMeans, readPosition, positionsMean, positionsWithin};
 
 // The values of line 2, and the index after it.
 pub enum TermsLine {
     Terms(Terms, usize),
+    Refused(Refusal),
+}
+
+// Lines 1 to 3: the values of line 2, whether each position line begins with a code, and the index after them.
+pub enum HeadLines {
+    Head(Terms, bool, usize),
     Refused(Refusal),
 }
 
@@ -86,49 +94,65 @@ fn read_terms(text: &[u8], at: usize) -> TermsLine
 }
 
 // Lines 1 to 3 of a text that is not too long.
-pub fn read_head(text: &[u8]) -> TermsLine
-    ensures { λ r. ⌜ termsMeans (now (text .entry)) r ≡ readHead (now (text .entry)) ⌝ }
+pub fn read_head(text: &[u8]) -> HeadLines
+    ensures { λ r. ⌜ headMeans (now (text .entry)) r ≡ readHead (now (text .entry)) ⌝ }
 {
     if text.len() > 32768 {
-        return TermsLine::Refused(Refusal::TextTooLong);
+        return HeadLines::Refused(Refusal::TextTooLong);
     }
     let Names::Line(_, line2) = read_names(text, 0, Heading::Terms) else {
-        return TermsLine::Refused(Refusal::NamesLine);
+        return HeadLines::Refused(Refusal::NamesLine);
     };
     match read_terms(text, line2) {
-        TermsLine::Refused(refusal) => TermsLine::Refused(refusal),
+        TermsLine::Refused(refusal) => HeadLines::Refused(refusal),
         TermsLine::Terms(terms, line3) => {
-            let Names::Line(_, lines) = read_names(text, line3, Heading::Positions) else {
-                return TermsLine::Refused(Refusal::NamesLine);
+            let Names::Line(heading, lines) = read_columns(text, line3) else {
+                return HeadLines::Refused(Refusal::NamesLine);
             };
-            TermsLine::Terms(terms, lines)
+            HeadLines::Head(terms, is_coded(heading), lines)
         }
     }
+}
+
+// Reads the code, the account and the shorts of a position line at an index. Without a code of its own the code is the account.
+fn read_position(text: &[u8], at: usize, coded: bool, row: &mut [u32]) -> RowEnd
+    requires { ⌜ length (now row) ≡ 3 ⌝ }
+    ensures { λ r. ⌜ rowMeans (now (text .entry)) (now (row .exit)) r ≡ readPosition coded (drop at (now (text .entry))) ⌝ }
+{
+    if coded {
+        return read_row(text, at, row);
+    }
+    let end = read_row(text, at, &mut row[1..]);
+    row[0] = row[1];
+    end
 }
 
 // The position lines from an index to the end of the text, at most 1,024 of them.
 pub fn read_positions(
     text: &[u8],
     from: usize,
+    coded: bool,
+    codes: &mut [u32],
     accounts: &mut [u32],
     shorts: &mut [u32],
 ) -> Positions
-    requires { ⌜ (MOST_LINES ≤ length (now accounts)) × (MOST_LINES ≤ length (now shorts)) ⌝ }
-    ensures { λ r. ⌜ positionsMean (now (accounts .exit)) (now (shorts .exit)) r ≡ readRows MOST_LINES 2 (drop from (now (text .entry))) ⌝ }
+    requires { ⌜ (MOST_LINES ≤ length (now codes)) × (MOST_LINES ≤ length (now accounts)) × (MOST_LINES ≤ length (now shorts)) ⌝ }
+    ensures { λ r. ⌜ ((t : Terms·) → positionsMean t (now (codes .exit)) (now (accounts .exit)) (now (shorts .exit)) r ≡ readPositions (record { terms = t; coded = coded }) (drop from (now (text .entry)))) ⌝ }
     ensures { λ r. ⌜ positionsWithin r ⌝ }
 {
-    let mut row = [0u32; 2];
+    let mut row = [0u32; 3];
     let mut at = from;
     let mut n: usize = 0;
     while at < text.len() {
         if n >= 1024 {
             return Positions::Refused(Refusal::TooManyLines);
         }
-        let RowEnd::At(next) = read_row(text, at, &mut row) else {
+        let RowEnd::At(next) = read_position(text, at, coded, &mut row) else {
             return Positions::Refused(Refusal::Malformed);
         };
-        accounts[n] = row[0];
-        shorts[n] = row[1];
+        codes[n] = row[0];
+        accounts[n] = row[1];
+        shorts[n] = row[2];
         n += 1;
         at = next;
     }

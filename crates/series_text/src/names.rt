@@ -4,13 +4,14 @@ use crate::field::skip_line;
 ghost use mathlib.Core.Path.{_≡_};
 ghost use mathlib.Core.List.{[], _∷_};
 ghost use lib.ListN.{drop};
-ghost use Rattle.series_text.specs.Names.{afterLine, namesLine, readNames};
+ghost use Rattle.series_text.specs.Names.{line3, headingOf, coded, afterLine, namesLine, readNames};
 ghost use Rattle.series_text.specs.Parts.{lineMeans, namesMean};
 
-// What a names line stands for: the values of line 2, or the columns of the position lines.
+// What a names line stands for: the values of line 2, or the columns of the position lines, without a code or with one.
 pub enum Heading {
     Terms,
     Positions,
+    CodedPositions,
 }
 
 // A names line, with the index after it.
@@ -25,6 +26,9 @@ pub const TERMS_NAMES: [u8; 22] = *b"method,exercised,draw\n";
 // Line 3.
 pub const POSITION_NAMES: [u8; 14] = *b"account,short\n";
 
+// Line 3 of a text with codes.
+pub const CODED_NAMES: [u8; 19] = *b"code,account,short\n";
+
 // Compares the text at an index with the line of a heading.
 fn skip_heading(text: &[u8], at: usize, heading: Heading) -> Line
     ensures { λ r. ⌜ lineMeans (now (text .entry)) r ≡ afterLine (namesLine heading) (drop at (now (text .entry))) ⌝ }
@@ -32,6 +36,7 @@ fn skip_heading(text: &[u8], at: usize, heading: Heading) -> Line
     match heading {
         Heading::Terms => skip_line(text, at, &TERMS_NAMES),
         Heading::Positions => skip_line(text, at, &POSITION_NAMES),
+        Heading::CodedPositions => skip_line(text, at, &CODED_NAMES),
     }
 }
 
@@ -43,4 +48,35 @@ pub fn read_names(text: &[u8], at: usize, heading: Heading) -> Names
         return Names::Unknown;
     };
     Names::Line(heading, next)
+}
+
+// Reads line 3, which has no code or has one.
+pub fn read_columns(text: &[u8], at: usize) -> Names
+    ensures { λ r. ⌜ namesMean (now (text .entry)) r ≡ readNames line3 (drop at (now (text .entry))) ⌝ }
+{
+    let Names::Line(heading, next) = read_names(text, at, Heading::Positions) else {
+        return read_names(text, at, Heading::CodedPositions);
+    };
+    Names::Line(heading, next)
+}
+
+// Whether a heading stands for position lines with a code.
+pub fn is_coded(heading: Heading) -> bool
+    ensures { λ r. ⌜ r ≡ coded heading ⌝ }
+{
+    match heading {
+        Heading::Terms => false,
+        Heading::Positions => false,
+        Heading::CodedPositions => true,
+    }
+}
+
+// The heading of position lines with a code, or without one.
+pub fn heading_of(coded: bool) -> Heading
+    ensures { λ r. ⌜ r ≡ headingOf coded ⌝ }
+{
+    if coded {
+        return Heading::CodedPositions;
+    }
+    Heading::Positions
 }

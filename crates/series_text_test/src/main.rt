@@ -49,9 +49,9 @@ fn print_refusal(refusal: Refusal) {
 }
 
 // Writes a series to an output of 96 bytes, and prints the answer and the whole output.
-fn rewrite(terms: Terms, accounts: &[u32], shorts: &[u32]) {
+fn rewrite(terms: Terms, codes: &[u32], accounts: &[u32], shorts: &[u32]) {
     let mut output = [b'.'; 96];
-    match text_writing::write(terms, accounts, shorts, &mut output) {
+    match text_writing::write(terms, codes, accounts, shorts, &mut output) {
         Writing::Written(n) => {
             print(b"written ");
             print_number(n as u64);
@@ -63,24 +63,29 @@ fn rewrite(terms: Terms, accounts: &[u32], shorts: &[u32]) {
     print(b"\n");
 }
 
-// Rewrites the first n positions of two lists.
-fn rewrite_first(terms: Terms, accounts: &[u32], shorts: &[u32], n: usize) {
+// Rewrites the first n positions of three lists.
+fn rewrite_first(terms: Terms, codes: &[u32], accounts: &[u32], shorts: &[u32], n: usize) {
+    if n > codes.len() {
+        return;
+    }
     if n > accounts.len() {
         return;
     }
     if n > shorts.len() {
         return;
     }
-    rewrite(terms, &accounts[..n], &shorts[..n]);
+    rewrite(terms, &codes[..n], &accounts[..n], &shorts[..n]);
 }
 
 // Reads a text into lists of 6, prints what they hold, and rewrites the series.
 fn reread(text: &[u8]) {
+    let mut codes = [7u32; 6];
     let mut accounts = [7u32; 6];
     let mut shorts = [7u32; 6];
-    match series_text::read(text, &mut accounts, &mut shorts) {
+    match series_text::read(text, &mut codes, &mut accounts, &mut shorts) {
         Reading::Refused(refusal) => {
             print_refusal(refusal);
+            print_list(&codes);
             print_list(&accounts);
             print_list(&shorts);
         }
@@ -89,9 +94,10 @@ fn reread(text: &[u8]) {
             print_terms(terms);
             print_number(positions as u64);
             print(b"\n");
+            print_list(&codes);
             print_list(&accounts);
             print_list(&shorts);
-            rewrite_first(terms, &accounts, &shorts, positions);
+            rewrite_first(terms, &codes, &accounts, &shorts, positions);
         }
     }
 }
@@ -128,6 +134,25 @@ fn spellings() {
     reread(b"method,exercised,draw\nW,1,9999999999\naccount,short\n1,1\n");
     reread(b"method,exercised,draw\nW,1,1\naccount,short\n4294967297,1\n");
     reread(b"method,exercised,draw\nW,1,1\naccount,short\n1,8589934592\n");
+}
+
+// Codes: a list in code order, codes that are the accounts, no positions, too few and too many numbers, and other names lines.
+fn codes() {
+    reread(
+        b"method,exercised,draw\nW,175,1\ncode,account,short\n10,500,60\n20,700,200\n30,100,95\n",
+    );
+    reread(b"method,exercised,draw\nL,13,4855\ncode,account,short\n1,1,5\n2,2,8\n");
+    reread(b"method,exercised,draw\nW,1,1\ncode,account,short\n");
+    reread(b"method,exercised,draw\nP,1,1\ncode,account,short\n0009,2,1\n0,3,4294967295\n");
+    reread(b"method,exercised,draw\nW,1,1\ncode,account,short\n1,1\n");
+    reread(b"method,exercised,draw\nW,1,1\ncode,account,short\n1,1,1,1\n");
+    reread(b"method,exercised,draw\nW,1,1\naccount,short\n1,1,1\n");
+    reread(b"method,exercised,draw\nW,1,1\ncode,account,short\n00000000001,1,1\n");
+    reread(b"method,exercised,draw\nW,1,1\ncode,account,shorts\n1,1,1\n");
+    reread(b"method,exercised,draw\nW,1,1\ncode,account\n1,1,1\n");
+    reread(
+        b"method,exercised,draw\nW,1,1\ncode,account,short\n1,1,1\n2,2,1\n3,3,1\n4,4,1\n5,5,1\n6,6,1\n7,7,1\n",
+    );
 }
 
 // The byte at an index of a text that is a head and then lines `1,1`.
@@ -177,20 +202,35 @@ fn terms(method: Method, exercised: u32, draw: u32) -> Terms {
     }
 }
 
-// What writing refuses.
+// What writing refuses: 1 for each list, and 4.
 fn writings() {
-    rewrite(terms(Method::Lottery, 13, 4855), &[1, 2, 3], &[5, 8]);
-    rewrite(terms(Method::Wheel, 1, 1), &[1u32; 1025], &[1u32; 1025]);
+    let values = terms(Method::Lottery, 13, 4855);
+    rewrite(values, &[1, 2, 3], &[1, 2, 3], &[5, 8]);
+    rewrite(values, &[1, 2], &[1, 2, 3], &[5, 8, 2]);
+    rewrite(values, &[1, 2], &[1], &[5, 8]);
     rewrite(
         terms(Method::ProRata, 4294967295, 4294967295),
+        &[4294967295, 4294967295],
         &[4294967295, 4294967295],
         &[4294967295, 4294967295],
     );
 }
 
+// Long lists: 15 before 11, 11 before 4 with the codes, and 4 without them.
+fn long_writings() {
+    let few = terms(Method::Wheel, 1, 1);
+    let codes = [1000000000u32; 1025];
+    let large = [4294967295u32; 1025];
+    rewrite(few, &codes, &large, &large);
+    rewrite_first(few, &codes, &large, &large, 1024);
+    rewrite_first(few, &large, &large, &large, 1024);
+}
+
 fn main() {
     texts();
     spellings();
+    codes();
     limits();
     writings();
+    long_writings();
 }

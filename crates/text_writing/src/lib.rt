@@ -8,12 +8,13 @@ use series::Refusal;
 use series::Terms;
 use series_text::letters::letter_of;
 use series_text::names::Heading;
+use series_text::names::heading_of;
 ghost use mathlib.Core.Path.{_≡_};
 ghost use Prim.Native.Nat.{_≤_};
 ghost use lib.ListN.{length};
 ghost use Rattle.series.specs.Results.{after};
 ghost use Rattle.series.specs.Outputs.{onto};
-ghost use Rattle.series_text.specs.Text.{writeHead};
+ghost use Rattle.series_text.specs.Text.{writeHead, sameNumbers};
 ghost use Rattle.series_text.specs.Calls.{writeInto, tableInto, noteInto, lengthOf};
 ghost use Rattle.text_writing.specs.Answers.{writingOf};
 ghost use Rattle.text_writing.specs.Parts.{Put};
@@ -25,9 +26,9 @@ pub enum Writing {
 }
 
 // Puts lines 1 to 3 at the start of a head, and hands back their length.
-fn put_head(head: &mut [u8], terms: Terms) -> usize
-    requires { ⌜ 60 ≤ length (now head) ⌝ }
-    ensures { λ r. ⌜ Put (writeHead terms) (now (head .entry)) 0 (now (head .exit)) r ⌝ }
+fn put_head(head: &mut [u8], coded: bool, terms: Terms) -> usize
+    requires { ⌜ 65 ≤ length (now head) ⌝ }
+    ensures { λ r. ⌜ Put (writeHead coded terms) (now (head .entry)) 0 (now (head .exit)) r ⌝ }
 {
     let line2 = names::put_names(head, 0, Heading::Terms);
     let method = terms.method;
@@ -35,17 +36,53 @@ fn put_head(head: &mut [u8], terms: Terms) -> usize
     head[line2 + 1] = b',';
     let exercised = terms.exercised;
     let line3 = row::put_row(head, line2 + 2, &[exercised.0, terms.draw]);
-    names::put_names(head, line3, Heading::Positions)
+    names::put_names(head, line3, heading_of(coded))
 }
 
-// Writes the text of a series. A refusal writes nothing, and bytes past the text are kept.
-pub fn write(terms: Terms, accounts: &[u32], shorts: &[u32], text: &mut [u8]) -> Writing
-    ensures { λ r. ⌜ writingOf r ≡ lengthOf (writeInto (record { terms = terms; accounts = now (accounts .entry); shorts = now (shorts .entry) }) (length (now (text .entry)))) ⌝ }
-    ensures { λ _. ⌜ now (text .exit) ≡ after (writeInto (record { terms = terms; accounts = now (accounts .entry); shorts = now (shorts .entry) }) (length (now (text .entry)))) (λ s. onto s (now (text .entry))) (now (text .entry)) ⌝ }
+// Whether two lists hold the same numbers.
+fn same_numbers(first: &[u32], second: &[u32]) -> bool
+    ensures { λ r. ⌜ r ≡ sameNumbers (now (first .entry)) (now (second .entry)) ⌝ }
 {
-    let mut head = [0u8; 60];
-    let n = put_head(&mut head, terms);
-    table::write_lines(&head[..n], accounts, shorts, text)
+    if first.len() != second.len() {
+        return false;
+    }
+    let mut i = 0;
+    while i < first.len() {
+        if first[i] != second[i] {
+            return false;
+        }
+        i += 1;
+    }
+    true
+}
+
+// Writes the text of a series, without its codes where every code is its account. A refusal writes nothing, and bytes past the text are kept.
+pub fn write(
+    terms: Terms,
+    codes: &[u32],
+    accounts: &[u32],
+    shorts: &[u32],
+    text: &mut [u8],
+) -> Writing
+    ensures { λ r. ⌜ writingOf r ≡ lengthOf (writeInto (record { terms = terms; codes = now (codes .entry); accounts = now (accounts .entry); shorts = now (shorts .entry) }) (length (now (text .entry)))) ⌝ }
+    ensures { λ _. ⌜ now (text .exit) ≡ after (writeInto (record { terms = terms; codes = now (codes .entry); accounts = now (accounts .entry); shorts = now (shorts .entry) }) (length (now (text .entry)))) (λ s. onto s (now (text .entry))) (now (text .entry)) ⌝ }
+{
+    let coded = !same_numbers(codes, accounts);
+    let mut lines = [0u8; 65];
+    let n = put_head(&mut lines, coded, terms);
+    let head = &lines[..n];
+    match table::measure(head, coded, codes, accounts, shorts) {
+        Writing::Refused(refusal) => Writing::Refused(refusal),
+        Writing::Written(bytes) => {
+            if bytes > 32768 {
+                return Writing::Refused(Refusal::TextTooLong);
+            }
+            if text.len() < bytes {
+                return Writing::Refused(Refusal::OutputTooShort);
+            }
+            Writing::Written(table::put_lines(head, coded, codes, accounts, shorts, text))
+        }
+    }
 }
 
 // Writes a table: a names line as given, and a line for each account and its count. A refusal writes nothing, and bytes past the table are kept.
@@ -53,7 +90,15 @@ pub fn write_table(names: &[u8], accounts: &[u32], counts: &[u32], text: &mut [u
     ensures { λ r. ⌜ writingOf r ≡ lengthOf (tableInto (now (names .entry)) (now (accounts .entry)) (now (counts .entry)) (length (now (text .entry)))) ⌝ }
     ensures { λ _. ⌜ now (text .exit) ≡ after (tableInto (now (names .entry)) (now (accounts .entry)) (now (counts .entry)) (length (now (text .entry)))) (λ s. onto s (now (text .entry))) (now (text .entry)) ⌝ }
 {
-    table::write_lines(names, accounts, counts, text)
+    match table::measure(names, false, accounts, accounts, counts) {
+        Writing::Refused(refusal) => Writing::Refused(refusal),
+        Writing::Written(length) => {
+            if text.len() < length {
+                return Writing::Refused(Refusal::OutputTooShort);
+            }
+            Writing::Written(table::put_lines(names, false, accounts, accounts, counts, text))
+        }
+    }
 }
 
 // Writes a note: a line as given, and a line with the number. A refusal writes nothing, and bytes past the note are kept.

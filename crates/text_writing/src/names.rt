@@ -1,5 +1,6 @@
 // Writing the names lines.
 use crate::put::put_line;
+use series_text::names::CODED_NAMES;
 use series_text::names::Heading;
 use series_text::names::POSITION_NAMES;
 use series_text::names::TERMS_NAMES;
@@ -17,5 +18,6 @@ pub fn put_names(text: &mut [u8], at: usize, heading: Heading) -> usize
     match heading {
         Heading::Terms => put_line(text, at, &TERMS_NAMES),
         Heading::Positions => put_line(text, at, &POSITION_NAMES),
+        Heading::CodedPositions => put_line(text, at, &CODED_NAMES),
     }
 }

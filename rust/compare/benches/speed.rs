@@ -7,7 +7,7 @@ use std::time::{Duration, Instant};
 use compare::make::{self, Series};
 use compare::program::{self, TextFile};
 use compare::random::Random;
-use compare::{days, plain};
+use compare::{days, plain, List};
 use dilbreth::calls;
 use reference::day::{Investor, MarketMaker};
 
@@ -68,29 +68,32 @@ fn list(positions: usize, total: u64) -> Series {
     for short in &mut shorts[..(total - given) as usize] {
         *short += 1;
     }
-    Series { accounts: make::upward(positions), shorts }
+    Series::by_account(make::upward(positions), shorts)
 }
 
-type Plain = fn(&[u32], &[u32], u32, u32, &mut [u32]) -> Result<(u32, u32), u32>;
+// One call of the library that is no refusal.
+fn library(method: u8, list: List, exercised: u32, draw: u32, amounts: &mut [u32]) {
+    let List { codes, accounts, shorts } = black_box(list);
+    let (mut total, mut further) = (0, 0);
+    let number = calls::allocate(method, codes, accounts, shorts, exercised, draw, amounts, &mut total, &mut further);
+    assert_eq!(black_box((number, total)).0, 0);
+    black_box(amounts);
+}
 
-fn by_method<const METHOD: u8>(
-    accounts: &[u32],
-    shorts: &[u32],
-    exercised: u32,
-    draw: u32,
-    amounts: &mut [u32],
-) -> Result<(u32, u32), u32> {
-    plain::allocate(METHOD, accounts, shorts, exercised, draw, amounts)
+type Plain = fn(List, u32, u32, &mut [u32]) -> Result<(u32, u32), u32>;
+
+fn by_method<const METHOD: u8>(list: List, exercised: u32, draw: u32, amounts: &mut [u32]) -> Result<(u32, u32), u32> {
+    plain::allocate(METHOD, list, exercised, draw, amounts)
 }
 
 fn allocation(row: Row) {
     let list = list(row.positions, row.total);
     assert_eq!(list.total(), row.total);
     let (method, exercised) = (row.method, row.exercised);
-    let (accounts, shorts) = (&list.accounts[..], &list.shorts[..]);
+    let list = list.list();
     let draw = if method == b'W' { (row.total / 3) as u32 } else { 3_333 };
     let step = median(|| {
-        let answer = reference::allocate(method, black_box(accounts), shorts, exercised, draw, shorts.len());
+        let answer = reference::allocate(method, black_box(list), exercised, draw, row.positions);
         black_box(answer.expect("an allocation"));
     });
     let mut amounts = [vec![0u32; row.positions], vec![0u32; row.positions], vec![0u32; row.positions]];
@@ -100,17 +103,13 @@ fn allocation(row: Row) {
             if cleared {
                 black_box(&mut *ours).fill(0);
             }
-            let (mut total, mut further) = (0, 0);
-            let number =
-                calls::allocate(method, black_box(accounts), shorts, exercised, draw, ours, &mut total, &mut further);
-            assert_eq!(black_box((number, total)).0, 0);
-            black_box(&ours);
+            library(method, list, exercised, draw, ours);
         };
         let call_plain = |allocate: Plain, amounts: &mut Vec<u32>| {
             if cleared {
                 black_box(&mut *amounts).fill(0);
             }
-            let answer = allocate(black_box(accounts), shorts, exercised, draw, amounts);
+            let answer = allocate(black_box(list), exercised, draw, amounts);
             black_box(answer.expect("an allocation"));
             black_box(&amounts);
         };
@@ -200,6 +199,60 @@ fn allocations() {
     }
 }
 
+// The orders of accounts in which W has to see that they differ.
+fn orders(positions: usize, random: &mut Random) -> [(&'static str, Vec<u32>); 5] {
+    let mut mixed = make::upward(positions);
+    make::shuffle(random, &mut mixed);
+    [
+        ("rising", make::upward(positions)),
+        ("1, 2, .. in random order", mixed),
+        ("random numbers", make::different(random, positions)),
+        ("random order, the same low 20 bits", make::sharing_low_bits(random, positions, 20)),
+        ("all collide", make::sharing_upper_bits_of_product(random, positions)),
+    ]
+}
+
+fn distinct_row(order: &str, list: List, exercised: u32, name: &str) {
+    let mut amounts = [(); 2].map(|_| vec![0; list.shorts.len()]);
+    let [ours, theirs] = &mut amounts;
+    let mut call_library = || library(b'W', list, exercised, 1, ours);
+    let mut call_plain = || {
+        black_box(plain::allocate(b'W', black_box(list), exercised, 1, theirs).expect("an allocation"));
+        black_box(&theirs);
+    };
+    let [ours, theirs] = medians([&mut call_library, &mut call_plain]);
+    println!(
+        "{order:<38}{:>10}{name:>8}{:>12}{:>12}{:>12.2}",
+        list.shorts.len(),
+        time(ours),
+        time(theirs),
+        ours / theirs
+    );
+}
+
+fn distinct_accounts() {
+    println!();
+    println!(
+        "Distinct accounts: W with codes that rise, where judging dominates: S = T, and S = 25. 'plain' judges in one"
+    );
+    println!("walk too; from the first account on that is not above all before it, it has them in a HashSet of std.");
+    println!(
+        "'all collide': (account * 2,654,435,761 mod 2^32) >> 20 is the same for all, the worst case of the look-up."
+    );
+    println!("{:<38}{:>10}{:>8}{:>12}{:>12}{:>12}", "accounts", "positions", "S", "library", "plain", "to plain");
+    for positions in [100, 1_024, 4_096] {
+        let mut random = Random::new(0xBE7C_7000);
+        let made = list(positions, 1_000 * positions as u64);
+        for (order, accounts) in orders(positions, &mut random) {
+            let codes = make::upward(positions);
+            let list = List { codes: &codes, accounts: &accounts, shorts: &made.shorts };
+            for (exercised, name) in [(made.total() as u32, "T"), (25, "25")] {
+                distinct_row(order, list, exercised, name);
+            }
+        }
+    }
+}
+
 fn rate(bytes: usize, nanoseconds: f64) -> String {
     format!("{:.0} MB/s", bytes as f64 / nanoseconds * 1e3)
 }
@@ -219,40 +272,40 @@ fn text_row(call: &str, positions: usize, bytes: usize, library: f64, plain: f64
 }
 
 fn reading(text: &[u8], positions: usize, note: &str) {
-    let (mut a, mut s) = (vec![0; positions], vec![0; positions]);
-    let (mut a2, mut s2) = (a.clone(), s.clone());
+    let [mut c, mut a, mut s, mut c2, mut a2, mut s2] = [(); 6].map(|_| vec![0; positions]);
     let mut call_library = || {
         let (mut method, mut exercised, mut draw, mut found) = (0, 0, 0, 0);
-        let number = calls::read(black_box(text), &mut a, &mut s, &mut method, &mut exercised, &mut draw, &mut found);
+        let (text, terms) = (black_box(text), (&mut method, &mut exercised, &mut draw));
+        let number = calls::read(text, &mut c, &mut a, &mut s, terms.0, terms.1, terms.2, &mut found);
         assert_eq!(black_box((number, found)), (0, positions));
-        black_box((&a, &s));
+        black_box((&c, &a, &s));
     };
     let mut call_plain = || {
-        black_box(plain::read(black_box(text), &mut a2, &mut s2).expect("a series"));
-        black_box((&a2, &s2));
+        black_box(plain::read(black_box(text), &mut c2, &mut a2, &mut s2).expect("a series"));
+        black_box((&c2, &a2, &s2));
     };
     let [library, best] = medians([&mut call_library, &mut call_plain]);
     text_row("read", positions, text.len(), library, best, note);
 }
 
-fn writing(list: &Series, length: usize) {
-    let Series { accounts, shorts } = list;
+fn writing(list: List, length: usize, note: &str) {
     let (mut out, mut out2) = (vec![0; length], vec![0; length]);
     let mut call_library = || {
         let mut written = 0;
-        let number = calls::write(b'W', 500, 77, black_box(accounts), shorts, &mut out, &mut written);
+        let List { codes, accounts, shorts } = black_box(list);
+        let number = calls::write(b'W', 500, 77, codes, accounts, shorts, &mut out, &mut written);
         assert_eq!(black_box((number, written)), (0, length));
         black_box(&out);
     };
     let mut call_plain = || {
-        black_box(plain::write(b'W', 500, 77, black_box(accounts), shorts, &mut out2).expect("a text"));
+        black_box(plain::write(b'W', 500, 77, black_box(list), &mut out2).expect("a text"));
         black_box(&out2);
     };
     let [library, best] = medians([&mut call_library, &mut call_plain]);
-    text_row("write", accounts.len(), length, library, best, "");
+    text_row("write", list.accounts.len(), length, library, best, note);
 }
 
-fn responding(text: &[u8], positions: usize) {
+fn responding(text: &[u8], positions: usize, note: &str) {
     let mut printed = vec![0; 32_768];
     let library = median(|| {
         let mut written = 0;
@@ -262,7 +315,8 @@ fn responding(text: &[u8], positions: usize) {
     let slow = median(|| {
         black_box(reference::printed(black_box(text)));
     });
-    text_row("respond", positions, text.len(), library, slow, "   (plain here is the stepping version)");
+    let note = format!("   (plain here is the stepping version){note}");
+    text_row("respond", positions, text.len(), library, slow, &note);
 }
 
 // Accounts of ten digits, in the order of a list.
@@ -279,8 +333,16 @@ fn few_contracts(positions: usize, random: &mut Random) -> Vec<u32> {
     (0..positions).map(|_| random.spread(9_000) as u32).collect()
 }
 
-fn text_of(list: &Series) -> Vec<u8> {
-    reference::write(b'W', 500, 77, &list.accounts, &list.shorts, usize::MAX).expect("a text")
+fn text_of(list: List) -> Vec<u8> {
+    reference::write(b'W', 500, 77, list, usize::MAX).expect("a text")
+}
+
+// Reading, writing and responding, the codes being the accounts or others.
+fn whole_text(list: List, note: &str) {
+    let (text, positions) = (text_of(list), list.accounts.len());
+    reading(&text, positions, note);
+    writing(list, text.len(), note);
+    responding(&text, positions, note);
 }
 
 fn texts() {
@@ -293,15 +355,16 @@ fn texts() {
     for positions in [10, 100, 1_024] {
         let mut random = Random::new(0xBE7C_5000);
         let accounts = long_accounts(positions, &mut random);
-        let list = Series { accounts, shorts: few_contracts(positions, &mut random) };
-        let text = text_of(&list);
-        reading(&text, positions, "");
-        writing(&list, text.len());
-        responding(&text, positions);
+        let list = Series::by_account(accounts, few_contracts(positions, &mut random));
+        whole_text(list.list(), "");
+        let mut falling = list.accounts.clone();
+        falling.reverse();
+        whole_text(List { accounts: &falling, ..list.list() }, "   (with codes)");
     }
     let shorts = few_contracts(1_024, &mut Random::new(0xBE7C_5000));
-    let text = text_of(&Series { accounts: make::upward(1_024), shorts });
-    let four_digits = make::spelled(&text, |i, digits| if make::field(i) == 2 { 4 } else { digits });
+    let text = text_of(List::by_account(&make::upward(1_024), &shorts));
+    let is_account = |i| make::is_account(make::field(false, i));
+    let four_digits = make::spelled(&text, |i, digits| if is_account(i) { 4 } else { digits });
     reading(&four_digits, 1_024, "   (accounts 0001 to 1024)");
     reading(&make::spelled(&text, |_, _| 10), 1_024, "   (every number in ten digits)");
 }
@@ -367,7 +430,8 @@ fn whole_runs() {
         let shorts: Vec<u32> = (0..1_024).map(|i| 9_000 + i % 700).collect();
         let accounts: Vec<u32> = (0..1_024).map(|i| 4_000_000_000 + 977 * i).collect();
         let total: u32 = shorts.iter().sum();
-        let text = reference::write(method, total - 1, 4_855, &accounts, &shorts, usize::MAX).expect("a text");
+        let list = List::by_account(&accounts, &shorts);
+        let text = reference::write(method, total - 1, 4_855, list, usize::MAX).expect("a text");
         let file = TextFile::new(&text);
         let ours = median(|| run(&mut program::command(), &file));
         let empty = median(|| run(&mut std::process::Command::new("/bin/true"), &file));
@@ -388,6 +452,7 @@ fn main() {
         return;
     }
     allocations();
+    distinct_accounts();
     texts();
     whole_days();
     whole_runs();

@@ -3,7 +3,9 @@
 use std::fmt::Write;
 
 use reference::day::{Investor, MarketMaker};
+use reference::List;
 
+use crate::make::Series;
 use crate::program::{self, Feed};
 
 fn list(numbers: &[u32]) -> String {
@@ -33,16 +35,20 @@ fn shown(method: u8) -> String {
     }
 }
 
-pub fn allocate(method: u8, accounts: &[u32], shorts: &[u32], exercised: u32, draw: u32, room: usize) -> String {
-    format!("allocate {} {} {} {exercised} {draw} {room}", shown(method), list(accounts), list(shorts))
+fn lists(List { codes, accounts, shorts }: List) -> String {
+    [codes, accounts, shorts].map(list).join(" ")
 }
 
-pub fn read(text: &[u8], accounts_room: usize, shorts_room: usize) -> String {
-    format!("read {} {accounts_room} {shorts_room}", hex(text))
+pub fn allocate(method: u8, list: List, exercised: u32, draw: u32, room: usize) -> String {
+    format!("allocate {} {} {exercised} {draw} {room}", shown(method), lists(list))
 }
 
-pub fn write(method: u8, exercised: u32, draw: u32, accounts: &[u32], shorts: &[u32], room: usize) -> String {
-    format!("write {} {exercised} {draw} {} {} {room}", shown(method), list(accounts), list(shorts))
+pub fn read(text: &[u8], rooms: [usize; 3]) -> String {
+    format!("read {} {}", hex(text), rooms.map(|room| room.to_string()).join(" "))
+}
+
+pub fn write(method: u8, exercised: u32, draw: u32, list: List, room: usize) -> String {
+    format!("write {} {exercised} {draw} {} {room}", shown(method), lists(list))
 }
 
 pub fn respond(text: &[u8], room: usize) -> String {
@@ -105,10 +111,16 @@ pub fn again(line: &str) -> Result<bool, String> {
     let words: Vec<&str> = line.split_whitespace().collect();
     let n = |i: usize| words[i].parse::<u32>().expect("a number");
     let room = |i: usize| words[i].parse::<usize>().expect("a length");
+    let series = |i: usize| {
+        let [codes, accounts, shorts] = [i, i + 1, i + 2].map(|i| to_list(words[i]));
+        Series { codes, accounts, shorts }
+    };
     match words[0] {
-        "allocate" => crate::allocate(to_method(words[1]), &to_list(words[2]), &to_list(words[3]), n(4), n(5), room(6)),
-        "read" => crate::read(&to_bytes(words[1]), room(2), room(3)),
-        "write" => crate::write(to_method(words[1]), n(2), n(3), &to_list(words[4]), &to_list(words[5]), room(6)),
+        "allocate" => {
+            crate::allocate(to_method(words[1]), series(2).list(), n(5), n(6), room(7)).map(|number| number == 0)
+        }
+        "read" => crate::read(&to_bytes(words[1]), [2, 3, 4].map(room)),
+        "write" => crate::write(to_method(words[1]), n(2), n(3), series(4).list(), room(7)),
         "respond" => crate::respond(&to_bytes(words[1]), room(2)),
         "process_investor" => crate::process_investor(n(1), to_counts(words[2])).map(|number| number == 0),
         "process_market_maker" => crate::process_market_maker(n(1), to_counts(words[2])).map(|number| number == 0),

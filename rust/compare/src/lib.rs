@@ -11,6 +11,7 @@ pub mod random;
 
 use dilbreth::calls;
 use reference::day::{AfterDay, Investor, MarketMaker};
+pub use reference::List;
 
 // What the outputs hold before a call: no amount, no account in use, no byte of a text.
 const EDGE: usize = 8;
@@ -67,76 +68,65 @@ fn fair(method: u8, shorts: &[u32], exercised: u32, total: u32, amounts: &[u32])
         })
 }
 
-/// The allocating call; answers whether the series was accepted.
-pub fn allocate(
-    method: u8,
-    accounts: &[u32],
-    shorts: &[u32],
-    exercised: u32,
-    draw: u32,
-    room: usize,
-) -> Result<bool, String> {
-    let expected = reference::allocate(method, accounts, shorts, exercised, draw, room);
-    let mut amounts = Lent::new(room, kept_number);
+/// The allocating call; answers 0 or the number of the refusal.
+pub fn allocate(method: u8, list: List, exercised: u32, draw: u32, room: usize) -> Result<u32, String> {
+    let List { codes, accounts, shorts } = list;
+    let expected = reference::allocate(method, list, exercised, draw, room);
+    let mut lent = Lent::new(room, kept_number);
     let (mut total, mut further) = (kept_number(1), kept_number(2));
-    let number = calls::allocate(method, accounts, shorts, exercised, draw, amounts.slice(), &mut total, &mut further);
+    let amounts = lent.slice();
+    let number = calls::allocate(method, codes, accounts, shorts, exercised, draw, amounts, &mut total, &mut further);
     let (want, written) = match &expected {
         Ok(a) => ((0, a.total, a.further), &a.amounts[..]),
         Err(n) => ((*n, kept_number(1), kept_number(2)), &[][..]),
     };
     let found = (number, total, further);
-    if found == want && amounts.is(written, kept_number) {
+    if found == want && lent.is(written, kept_number) {
         if number == 0 && !fair(method, shorts, exercised, total, written) {
-            let case = cases::allocate(method, accounts, shorts, exercised, draw, room);
+            let case = cases::allocate(method, list, exercised, draw, room);
             return Err(format!("{case}\n  both give {written:?}, which is no fair share"));
         }
-        return Ok(number == 0);
+        return Ok(number);
     }
     Err(format!(
         "{}\n  answer, T, further: expected {want:?}, found {found:?}; amounts differ {}",
-        cases::allocate(method, accounts, shorts, exercised, draw, room),
-        amounts.first_difference(written, kept_number)
+        cases::allocate(method, list, exercised, draw, room),
+        lent.first_difference(written, kept_number)
     ))
 }
 
-/// The reading call; answers whether the text was accepted.
-pub fn read(text: &[u8], accounts_room: usize, shorts_room: usize) -> Result<bool, String> {
-    let expected = reference::read(text, accounts_room, shorts_room);
-    let mut accounts = Lent::new(accounts_room, kept_number);
-    let mut shorts = Lent::new(shorts_room, kept_number);
+/// The reading call, with lent lists of the lengths for codes, accounts and shorts; answers whether the text was
+/// accepted.
+pub fn read(text: &[u8], rooms: [usize; 3]) -> Result<bool, String> {
+    let expected = reference::read(text, rooms);
+    let mut lent = rooms.map(|room| Lent::new(room, kept_number));
     let (mut method, mut exercised, mut draw, mut positions) = (kept_byte(1), kept_number(1), kept_number(2), !3);
     let kept = (method, exercised, draw, positions);
-    let number =
-        calls::read(text, accounts.slice(), shorts.slice(), &mut method, &mut exercised, &mut draw, &mut positions);
-    let (want, list_a, list_s) = match &expected {
-        Ok(s) => ((0, (s.method, s.exercised, s.draw, s.accounts.len())), &s.accounts[..], &s.shorts[..]),
-        Err(n) => ((*n, kept), &[][..], &[][..]),
+    let [codes, accounts, shorts] = lent.each_mut().map(Lent::slice);
+    let number = calls::read(text, codes, accounts, shorts, &mut method, &mut exercised, &mut draw, &mut positions);
+    let (want, lists) = match &expected {
+        Ok(s) => ((0, (s.method, s.exercised, s.draw, s.shorts.len())), [&s.codes[..], &s.accounts, &s.shorts]),
+        Err(n) => ((*n, kept), [&[][..]; 3]),
     };
     let found = (number, (method, exercised, draw, positions));
-    if found == want && accounts.is(list_a, kept_number) && shorts.is(list_s, kept_number) {
+    if found == want && lent.iter().zip(lists).all(|(lent, list)| lent.is(list, kept_number)) {
         return Ok(number == 0);
     }
+    let differ: Vec<String> =
+        lent.iter().zip(lists).map(|(lent, list)| lent.first_difference(list, kept_number)).collect();
     Err(format!(
-        "{}\n  answer and terms: expected {want:?}, found {found:?}; accounts differ {}, shorts {}",
-        cases::read(text, accounts_room, shorts_room),
-        accounts.first_difference(list_a, kept_number),
-        shorts.first_difference(list_s, kept_number)
+        "{}\n  answer and terms: expected {want:?}, found {found:?}; codes, accounts, shorts differ {differ:?}",
+        cases::read(text, rooms)
     ))
 }
 
 /// The writing call; answers whether the text was written.
-pub fn write(
-    method: u8,
-    exercised: u32,
-    draw: u32,
-    accounts: &[u32],
-    shorts: &[u32],
-    room: usize,
-) -> Result<bool, String> {
-    let expected = reference::write(method, exercised, draw, accounts, shorts, room);
+pub fn write(method: u8, exercised: u32, draw: u32, list: List, room: usize) -> Result<bool, String> {
+    let List { codes, accounts, shorts } = list;
+    let expected = reference::write(method, exercised, draw, list, room);
     let mut text = Lent::new(room, kept_byte);
     let mut length = !3;
-    let number = calls::write(method, exercised, draw, accounts, shorts, text.slice(), &mut length);
+    let number = calls::write(method, exercised, draw, codes, accounts, shorts, text.slice(), &mut length);
     let (want, written) = match &expected {
         Ok(t) => ((0, t.len()), &t[..]),
         Err(n) => ((*n, !3), &[][..]),
@@ -147,7 +137,7 @@ pub fn write(
     }
     Err(format!(
         "{}\n  answer and length: expected {want:?}, found {found:?}; bytes differ {}",
-        cases::write(method, exercised, draw, accounts, shorts, room),
+        cases::write(method, exercised, draw, list, room),
         text.first_difference(written, kept_byte)
     ))
 }
@@ -295,19 +285,29 @@ pub struct Count {
     accepted: u64,
     refused: u64,
     undrawn: [u64; 2],
+    met: [u64; 20],
 }
 
 impl Count {
     pub fn new(what: &'static str) -> Count {
-        Count { what, accepted: 0, refused: 0, undrawn: [0; 2] }
+        Count { what, accepted: 0, refused: 0, undrawn: [0; 2], met: [0; 20] }
     }
 
-    /// One allocating call as a case.
+    /// One allocating call as a case; answers 0 or the number of the refusal.
     #[track_caller]
-    pub fn allocate(&mut self, method: u8, accounts: &[u32], shorts: &[u32], exercised: u32, draw: u32, room: usize) {
-        if self.case(allocate(method, accounts, shorts, exercised, draw, room)) {
-            self.allocated(method, shorts, exercised, draw);
+    pub fn allocate(&mut self, method: u8, list: List, exercised: u32, draw: u32, room: usize) -> u32 {
+        let outcome = allocate(method, list, exercised, draw, room);
+        let number = outcome.as_ref().map_or(0, |number| *number);
+        self.met[number as usize] += 1;
+        if self.case(outcome.map(|number| number == 0)) {
+            self.allocated(method, list.shorts, exercised, draw);
         }
+        number
+    }
+
+    /// How many allocating calls were refused by each of the numbers.
+    pub fn met<const N: usize>(&self, numbers: [usize; N]) -> [u64; N] {
+        numbers.map(|number| self.met[number])
     }
 
     /// Counts an allocation where its draw is out of range.
@@ -342,6 +342,10 @@ impl Count {
         let [whole, one] = self.undrawn;
         if whole + one > 0 {
             println!("{}: {whole} whole series and {one} of one position with a draw out of range", self.what);
+        }
+        let [order, again] = self.met([5, 19]);
+        if again > 0 {
+            println!("{}: {order} refused by 5, {again} by 19", self.what);
         }
     }
 }

@@ -1,30 +1,47 @@
 //! Makes series, texts and damage to them.
 
+use std::collections::BTreeSet;
+
+use reference::List;
+
 use crate::random::Random;
 
 pub const METHODS: [u8; 3] = *b"WPL";
 
-/// The fields of a text that are numbers: S, the draw, an account, shorts.
-pub const FIELDS: usize = 4;
+/// The fields of a text that are numbers: S, the draw, an account and shorts where there is no column of codes; then S,
+/// the draw, a code, an account and shorts where there is.
+pub const FIELDS: usize = 9;
+const WITHOUT_CODE: usize = 4;
 
 #[derive(Clone, Debug)]
 pub struct Series {
+    pub codes: Vec<u32>,
     pub accounts: Vec<u32>,
     pub shorts: Vec<u32>,
 }
 
 impl Series {
+    /// Each code is the account number.
+    pub fn by_account(accounts: Vec<u32>, shorts: Vec<u32>) -> Series {
+        Series { codes: accounts.clone(), accounts, shorts }
+    }
+
+    pub fn list(&self) -> List<'_> {
+        List { codes: &self.codes, accounts: &self.accounts, shorts: &self.shorts }
+    }
+
     pub fn total(&self) -> u64 {
         self.shorts.iter().map(|&s| u64::from(s)).sum()
     }
 }
 
-/// Accounts 1, 2, ..
+/// 1, 2, ..
 pub fn upward(count: usize) -> Vec<u32> {
     (1..=count as u32).collect()
 }
 
-fn accounts(random: &mut Random, count: usize) -> Vec<u32> {
+/// Numbers above 0 that rise.
+pub fn rising(random: &mut Random, count: usize) -> Vec<u32> {
     match random.below(4) {
         0 => upward(count),
         1 => (0..count as u32).map(|i| u32::MAX - (count as u32 - 1) + i).collect(),
@@ -39,6 +56,87 @@ fn accounts(random: &mut Random, count: usize) -> Vec<u32> {
             all
         }
     }
+}
+
+pub fn shuffle(random: &mut Random, numbers: &mut [u32]) {
+    for at in (1..numbers.len()).rev() {
+        numbers.swap(at, random.index(at + 1));
+    }
+}
+
+/// Random numbers above 0 that differ, in random order.
+pub fn different(random: &mut Random, count: usize) -> Vec<u32> {
+    let mut found = BTreeSet::new();
+    while found.len() < count {
+        found.insert(random.between(1, u64::from(u32::MAX)) as u32);
+    }
+    let mut all: Vec<u32> = found.into_iter().collect();
+    shuffle(random, &mut all);
+    all
+}
+
+/// Numbers that differ and share their low bits, at most 2 to the power of 32 less the bits; none is 0.
+pub fn sharing_low_bits(random: &mut Random, count: usize, bits: u32) -> Vec<u32> {
+    let low = random.between(1, (1 << bits) - 1) as u32;
+    let mut high: Vec<u32> = (0..1 << (32 - bits)).collect();
+    shuffle(random, &mut high);
+    high.truncate(count);
+    high.iter().map(|high| (high << bits) + low).collect()
+}
+
+/// Numbers that differ and, times 2,654,435,761 in 32 bits, all have the same upper 12 bits; 4,096 at most.
+pub fn sharing_upper_bits_of_product(random: &mut Random, count: usize) -> Vec<u32> {
+    const FACTOR: u32 = 2_654_435_761;
+    let any = random.between(1, 4_095) as u32;
+    let upper = random.pick(&[1, 4_095, any]);
+    let mut inverse = 1u32;
+    for _ in 0..5 {
+        inverse = inverse.wrapping_mul(2u32.wrapping_sub(FACTOR.wrapping_mul(inverse)));
+    }
+    let mut lower: Vec<u32> = (0..1 << 12).collect();
+    shuffle(random, &mut lower);
+    let all = lower.iter().take(count).map(|lower| ((upper << 20) + (lower << 8)).wrapping_mul(inverse));
+    all.inspect(|number| assert_eq!(number.wrapping_mul(FACTOR) >> 20, upper)).collect()
+}
+
+// Another order of accounts that differ.
+fn reorder(random: &mut Random, accounts: &mut Vec<u32>) {
+    let count = accounts.len();
+    match random.below(8) {
+        0 => {}
+        1 => accounts.reverse(),
+        2 => accounts.rotate_left(count / 2),
+        3 => {
+            let at = random.index(count);
+            accounts.swap(at, (at + 1) % count);
+        }
+        4 if count <= 4_096 => *accounts = sharing_low_bits(random, count, 20),
+        5 if count <= 4_096 => *accounts = sharing_upper_bits_of_product(random, count),
+        _ => shuffle(random, accounts),
+    }
+}
+
+/// Codes that nothing is asked of.
+fn any_codes(random: &mut Random, count: usize) -> Vec<u32> {
+    let bits = random.bits() as u32;
+    (0..count).map(|_| random.pick(&[0, 1, bits, u32::MAX]).wrapping_add(random.below(3) as u32)).collect()
+}
+
+/// The list with codes that the method takes. Of three lists one has its accounts as codes; else the codes of W rise
+/// and its accounts stand in any order, and those of P and L, where none is looked at, are any.
+pub fn coded(random: &mut Random, method: u8, list: &Series) -> Series {
+    let mut list = list.clone();
+    let count = list.shorts.len();
+    if count == 0 || random.one_in(3) {
+        return list;
+    }
+    if method == b'W' {
+        list.codes = rising(random, count);
+        reorder(random, &mut list.accounts);
+    } else {
+        list.codes = any_codes(random, count);
+    }
+    list
 }
 
 /// A list of `count` positions with T at most `most`, and exactly `most` where `exact` is set.
@@ -63,7 +161,7 @@ pub fn series(random: &mut Random, count: usize, most: u64, exact: bool) -> Seri
         let at = random.index(count);
         shorts[at] += (most - short) as u32;
     }
-    Series { accounts: accounts(random, count), shorts }
+    Series::by_account(rising(random, count), shorts)
 }
 
 /// The lists whose shorts add up to `total`, each cut or not after each contract.
@@ -78,7 +176,7 @@ pub fn lists(total: u32) -> Vec<Series> {
                     *shorts.last_mut().unwrap() += 1;
                 }
             }
-            Series { accounts: upward(shorts.len()), shorts }
+            Series::by_account(upward(shorts.len()), shorts)
         })
         .collect()
 }
@@ -135,6 +233,30 @@ pub fn terms(random: &mut Random, method: u8, positions: usize, total: u64) -> (
     (exercised, draw(random, method, total))
 }
 
+// Faults of W at one position, by code and account, or several at once.
+fn spoil_position(random: &mut Random, list: &mut Series, at: usize) {
+    let other = random.index(at.max(1));
+    let before = at.saturating_sub(1);
+    let kind = random.below(10);
+    match kind {
+        0 | 5 => list.codes[at] = 0,
+        1 | 6 => list.codes[at] = list.codes[before],
+        2 => list.codes[at] = list.codes[other],
+        3 => list.codes.swap(at, other),
+        4 => list.codes[at] = u32::MAX,
+        _ => {}
+    }
+    match kind {
+        5 | 7 => list.accounts[at] = 0,
+        6 | 8 => list.accounts[at] = list.accounts[other],
+        9 => list.accounts[at] = list.accounts[before],
+        _ => {}
+    }
+    if kind > 4 && random.one_in(3) {
+        list.shorts[at] = random.pick(&[0, 10_000_001, u32::MAX]);
+    }
+}
+
 /// Breaks a list in one way.
 pub fn spoil(random: &mut Random, list: &mut Series) {
     let count = list.shorts.len().min(list.accounts.len());
@@ -142,7 +264,7 @@ pub fn spoil(random: &mut Random, list: &mut Series) {
         return;
     }
     let at = random.index(count);
-    match random.below(12) {
+    match random.below(20) {
         0 => list.accounts[at] = 0,
         1 => list.accounts[at] = list.accounts[at.saturating_sub(1)],
         2 => list.accounts[at] = u32::MAX,
@@ -156,7 +278,11 @@ pub fn spoil(random: &mut Random, list: &mut Series) {
         8 => drop(list.shorts.pop()),
         9 => drop(list.accounts.pop()),
         10 => list.shorts.push(1),
-        _ => list.accounts[at] = random.bits() as u32,
+        11 => drop(list.codes.pop()),
+        12 => list.codes.push(u32::MAX),
+        13 => list.accounts[at] = random.bits() as u32,
+        _ if at < list.codes.len() => spoil_position(random, list, at),
+        _ => list.codes = upward(count),
     }
 }
 
@@ -176,7 +302,11 @@ pub fn calls(random: &mut Random, positions: u64, total: u64) -> [Call; 3] {
     let exact = random.one_in(3);
     let list = series(random, positions as usize, most, exact);
     METHODS.map(|method| {
-        let mut list = list.clone();
+        let mut list = coded(random, method, &list);
+        if method != b'W' && random.one_in(4) {
+            let length = random.pick(&[0, 1, positions as usize + 1, 4_097]);
+            list.codes = any_codes(random, length);
+        }
         let (exercised, draw) = terms(random, method, list.shorts.len(), list.total());
         if random.one_in(12) {
             for _ in 0..random.between(1, 3) {
@@ -196,27 +326,65 @@ pub fn calls(random: &mut Random, positions: u64, total: u64) -> [Call; 3] {
 /// A text that reads, with `lines` positions, mostly one that is allocated.
 pub fn text(random: &mut Random, lines: usize) -> Vec<u8> {
     let method = random.pick(&METHODS);
-    let list = if lines == 0 {
-        Series { accounts: Vec::new(), shorts: Vec::new() }
-    } else {
+    let mut list = Series::by_account(vec![], vec![]);
+    if lines > 0 {
         let top = random.pick(&[40, 1_000, 100_000]).max(2 * lines as u64);
         let most = random.between(lines as u64, top);
-        let mut list = series(random, lines, most, false);
+        let made = series(random, lines, most, false);
+        list = if random.one_in(2) { made } else { coded(random, method, &made) };
         if random.one_in(8) {
             spoil(random, &mut list);
-            list.shorts.resize(lines, 7);
-            list.accounts.resize(lines, 7);
+            for numbers in [&mut list.codes, &mut list.accounts, &mut list.shorts] {
+                numbers.resize(lines, 7);
+            }
         }
-        list
-    };
+    }
     let total = list.total().clamp(1, u64::from(u32::MAX) - 1);
     let (s, d) = if random.one_in(16) {
         (random.bits() as u32, random.pick(&[0, u32::MAX, 4_294_967, 10]))
     } else {
         terms(random, method, lines, total)
     };
-    let text = reference::write(method, s, d, &list.accounts, &list.shorts, usize::MAX).expect("at most 1,024 lines");
-    with_zeros(random, &text)
+    let text = reference::write(method, s, d, list.list(), usize::MAX).expect("at most 1,024 lines");
+    let text = if list.codes == list.accounts && random.one_in(3) { with_codes(&text) } else { text };
+    let spelled = with_zeros(random, &text);
+    if spelled.len() > reference::MOST_BYTES {
+        text
+    } else {
+        spelled
+    }
+}
+
+const NAMES_3: &[u8] = b"account,short\n";
+const NAMES_3_WITH_CODE: &[u8] = b"code,account,short\n";
+
+/// Whether line 3 of a text has the column of codes.
+pub fn has_codes(text: &[u8]) -> bool {
+    text.split_inclusive(|&b| b == 10).nth(2) == Some(NAMES_3_WITH_CODE)
+}
+
+/// A text without the column of codes with it: each code is the account, in its spelling.
+pub fn with_codes(text: &[u8]) -> Vec<u8> {
+    let mut out = Vec::new();
+    for (i, line) in text.split_inclusive(|&b| b == 10).enumerate() {
+        match i {
+            0 | 1 => {}
+            2 => out.extend(b"code,"),
+            _ => out.extend(line.iter().take_while(|&&b| b != b',').chain(b",")),
+        }
+        out.extend(line);
+    }
+    out
+}
+
+/// A text without its column of codes.
+pub fn without_codes(text: &[u8]) -> Vec<u8> {
+    let mut out = Vec::new();
+    for (i, line) in text.split_inclusive(|&b| b == 10).enumerate() {
+        let skipped = line.iter().position(|&b| b == b',').map_or(0, |at| at + 1);
+        out.extend(if i < 2 { line } else { &line[skipped..] });
+    }
+    out
 }
 
 /// The text with zeros in front of none, some or all of its numbers, none longer than ten digits.
@@ -229,8 +397,10 @@ fn with_zeros(random: &mut Random, text: &[u8]) -> Vec<u8> {
             spelled(text, |_, _| width)
         }
         5 => {
-            let only = random.index(FIELDS);
-            spelled(text, |i, digits| if field(i) == only { random.between(2, 10) as usize } else { digits })
+            let coded = has_codes(text);
+            let only =
+                if coded { random.index(FIELDS - WITHOUT_CODE) + WITHOUT_CODE } else { random.index(WITHOUT_CODE) };
+            spelled(text, |i, digits| if field(coded, i) == only { random.between(2, 10) as usize } else { digits })
         }
         _ => spelled(text, |_, digits| random.between(digits as u64, 10) as usize),
     }
@@ -254,30 +424,77 @@ fn padded(digits: &[u8], width: usize) -> Vec<u8> {
     [&vec![b'0'; width.saturating_sub(digits.len())], digits].concat()
 }
 
-/// The field of a number by its index among the numbers of a text.
-pub fn field(index: usize) -> usize {
-    if index < 2 {
-        index
-    } else {
-        2 + index % 2
+/// The field of a number by its index among the numbers of a text, which has the column of codes or not.
+pub fn field(coded: bool, index: usize) -> usize {
+    match (coded, index < 2) {
+        (false, true) => index,
+        (false, false) => 2 + index % 2,
+        (true, true) => WITHOUT_CODE + index,
+        (true, false) => WITHOUT_CODE + 2 + (index - 2) % 3,
     }
+}
+
+/// The texts' fields that are accounts.
+pub fn is_account(field: usize) -> bool {
+    [2, WITHOUT_CODE + 3].contains(&field)
 }
 
 /// A text of one position with the number in the field; the numbers in the others are those of an allocation.
 pub fn in_field(field: usize, number: &str) -> Vec<u8> {
-    let mut fields = ["3", "5", "2", "7"];
+    let mut fields = ["3", "5", "2", "7", "3", "5", "4", "2", "7"];
     fields[field] = number;
-    let [exercised, draw, account, short] = fields;
-    format!("method,exercised,draw\nW,{exercised},{draw}\naccount,short\n{account},{short}\n").into_bytes()
+    let [exercised, draw, account, short, of_coded @ ..] = fields;
+    if field < WITHOUT_CODE {
+        return format!("method,exercised,draw\nW,{exercised},{draw}\naccount,short\n{account},{short}\n").into_bytes();
+    }
+    let [exercised, draw, code, account, short] = of_coded;
+    let lines = format!("code,account,short\n{code},{account},{short}\n");
+    format!("method,exercised,draw\nW,{exercised},{draw}\n{lines}").into_bytes()
 }
 
 /// Whether each field of a text that reads has a number with leading zeros.
 pub fn leading_zeros(text: &[u8]) -> [bool; FIELDS] {
     let mut found = [false; FIELDS];
+    let coded = has_codes(text);
     for (i, (from, to)) in numbers(text).into_iter().enumerate() {
-        found[field(i)] |= to - from > 1 && text[from] == b'0';
+        found[field(coded, i)] |= to - from > 1 && text[from] == b'0';
     }
     found
+}
+
+/// The text with zeros in front of its numbers, from the first on, so that it has the length, which must be in reach.
+pub fn stretched(text: &[u8], length: usize) -> Vec<u8> {
+    let mut missing = length - text.len();
+    let out = spelled(text, |_, digits| {
+        let more = missing.min(10 - digits);
+        missing -= more;
+        digits + more
+    });
+    assert_eq!(out.len(), length);
+    out
+}
+
+/// A list of 1,024 positions whose text, with S and draw of one digit, has the length; near 32,768.
+pub fn list_of_length(length: usize) -> Series {
+    let head = b"method,exercised,draw\nW,1,1\ncode,account,short\n".len();
+    let codes: Vec<u32> = (4_000_000_000..).take(1_024).collect();
+    let accounts = codes.iter().rev().map(|code| code - 1_000_000_000).collect();
+    let mut left = length - head - 1_024 * b"4000000000,3000000000,\n".len();
+    let digits = |lines_left: usize| {
+        let digits = left / lines_left;
+        left -= digits;
+        10u32.pow(digits as u32 - 1)
+    };
+    Series { codes, accounts, shorts: (1..=1_024).rev().map(digits).collect() }
+}
+
+/// A text of 1,024 positions with codes and leading zeros that has the length, near 32,768; it is allocated if that is
+/// not too long.
+pub fn text_of_length(length: usize) -> Vec<u8> {
+    let mut list = list_of_length(32_768);
+    list.shorts = upward(1_024);
+    let text = reference::write(b'W', 500_000, 77, list.list(), usize::MAX).expect("a text");
+    stretched(&text, length)
 }
 
 /// How many positions a text gets: mostly few, at times as many as there may be.
@@ -356,6 +573,27 @@ fn repeat_account(random: &mut Random, text: &mut Vec<u8>, start: usize, end: us
     }
 }
 
+/// Puts the column of codes in or takes it out: in line 3, in the whole text from line 3 on, or in the line given.
+fn other_form(random: &mut Random, text: &mut Vec<u8>, starts: &[usize], line: usize) {
+    let coded = has_codes(text);
+    match (random.below(3), starts) {
+        (0, &[_, _, from, to, ..]) => {
+            let names = if coded { NAMES_3 } else { NAMES_3_WITH_CODE };
+            text.splice(from..to, names.iter().copied());
+        }
+        (1, _) => *text = if coded { without_codes(text) } else { with_codes(text) },
+        _ if coded => {
+            let start = starts[line];
+            let column = text[start..].iter().position(|&b| b == b',').map_or(0, |at| at + 1);
+            text.drain(start..start + column);
+        }
+        _ => {
+            let column = random.pick(&[&b"9,"[..], b"0,", b"0001,", b",", b"code,"]);
+            text.splice(starts[line]..starts[line], column.iter().copied());
+        }
+    }
+}
+
 /// Damages a text in one way.
 pub fn damage(random: &mut Random, text: &mut Vec<u8>) {
     let length = text.len();
@@ -363,7 +601,7 @@ pub fn damage(random: &mut Random, text: &mut Vec<u8>) {
     let line = random.index(starts.len());
     let start = starts[line];
     let end = starts.get(line + 1).copied().unwrap_or(length);
-    match random.below(23) {
+    match random.below(26) {
         0..=2 if length > 0 => {
             let at = random.index(length);
             text[at] = byte(random);
@@ -411,7 +649,7 @@ pub fn damage(random: &mut Random, text: &mut Vec<u8>) {
         17 => {
             // Up to and past the number of lines that a text may have.
             let wanted = random.between(1_024, 1_026) as usize + 3;
-            let extra = random.pick(&[&b"9,9\n"[..], b"\n", b"x\n"]);
+            let extra = random.pick(&[&b"9,9\n"[..], b"9,9,9\n", b"\n", b"x\n"]);
             for _ in starts.len() - 1..wanted {
                 text.extend(extra);
             }
@@ -440,6 +678,7 @@ pub fn damage(random: &mut Random, text: &mut Vec<u8>) {
             text[a..b].reverse();
         }
         21 => repeat_account(random, text, start, end),
+        22..=24 => other_form(random, text, &starts, line),
         _ => {
             // Another method, known or not.
             if starts.len() > 1 && starts[1] < length {

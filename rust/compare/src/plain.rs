@@ -1,14 +1,58 @@
 //! Plain Rust for the same answers: what the benchmarks measure against.
 
+use std::collections::HashSet;
+
+use reference::List;
+
 const ONE: u64 = 1_000_000;
 
 fn known(method: u8) -> bool {
     matches!(method, b'W' | b'P' | b'L')
 }
 
-fn judge(accounts: &[u32], shorts: &[u32], exercised: u32, room: usize) -> Result<u32, u32> {
+/// The accounts met so far: each above the one before, or in a set from the first on that is not.
+struct Met<'a> {
+    accounts: &'a [u32],
+    highest: u32,
+    set: Option<HashSet<u32>>,
+}
+
+impl Met<'_> {
+    /// Whether the account at the index is 0 or stands earlier.
+    #[inline]
+    fn again(&mut self, at: usize) -> bool {
+        let account = self.accounts[at];
+        if account > self.highest {
+            self.highest = account;
+            return false;
+        }
+        account == 0 || self.look_up(at)
+    }
+
+    fn look_up(&mut self, at: usize) -> bool {
+        // No account is above it, so each is looked up from here on.
+        self.highest = u32::MAX;
+        let set = self.set.get_or_insert_with(|| {
+            let mut set = HashSet::with_capacity(self.accounts.len());
+            set.extend(&self.accounts[..at]);
+            set
+        });
+        !set.insert(self.accounts[at])
+    }
+}
+
+/// `rising` has to rise, and `again` tells of each account whether it is refused.
+#[inline]
+fn judge_list(
+    list: List,
+    rising: &[u32],
+    mut again: impl FnMut(usize) -> bool,
+    exercised: u32,
+    room: usize,
+) -> Result<u32, u32> {
+    let List { accounts, shorts, .. } = list;
     let count = accounts.len();
-    if count != shorts.len() {
+    if count != shorts.len() || rising.len() != count {
         return Err(1);
     }
     if count > 4_096 {
@@ -22,9 +66,12 @@ fn judge(accounts: &[u32], shorts: &[u32], exercised: u32, room: usize) -> Resul
     }
     let mut before = 0;
     let mut sum = 0u32;
-    for (&account, &short) in accounts.iter().zip(shorts) {
-        if account <= before {
+    for (at, (&number, &short)) in rising.iter().zip(shorts).enumerate() {
+        if number <= before {
             return Err(5);
+        }
+        if again(at) {
+            return Err(19);
         }
         if short == 0 {
             return Err(6);
@@ -33,7 +80,7 @@ fn judge(accounts: &[u32], shorts: &[u32], exercised: u32, room: usize) -> Resul
             return Err(7);
         }
         sum += short;
-        before = account;
+        before = number;
     }
     if exercised == 0 {
         return Err(8);
@@ -44,16 +91,26 @@ fn judge(accounts: &[u32], shorts: &[u32], exercised: u32, room: usize) -> Resul
     Ok(sum)
 }
 
+fn judge(method: u8, list: List, exercised: u32, room: usize) -> Result<u32, u32> {
+    if method == b'W' {
+        let mut met = Met { accounts: list.accounts, highest: 0, set: None };
+        judge_list(list, list.codes, |at| met.again(at), exercised, room)
+    } else {
+        judge_list(list, list.accounts, |_| false, exercised, room)
+    }
+}
+
 /// Judges a call; `assign` has the amounts that need its draw. T and the further number, or a refusal.
 fn judged(
     method: u8,
-    (accounts, shorts): (&[u32], &[u32]),
+    list: List,
     exercised: u32,
     draw: u32,
     amounts: &mut [u32],
     assign: impl FnOnce(&[u32], u32, u32, u32, &mut [u32]) -> u32,
 ) -> Result<(u32, u32), u32> {
-    let total = judge(accounts, shorts, exercised, amounts.len())?;
+    let total = judge(method, list, exercised, amounts.len())?;
+    let shorts = list.shorts;
     let amounts = &mut amounts[..shorts.len()];
     if method != b'P' {
         if exercised == total {
@@ -73,15 +130,7 @@ fn judged(
 }
 
 /// T and the further number, or a refusal.
-pub fn allocate(
-    method: u8,
-    accounts: &[u32],
-    shorts: &[u32],
-    exercised: u32,
-    draw: u32,
-    amounts: &mut [u32],
-) -> Result<(u32, u32), u32> {
-    let list = (accounts, shorts);
+pub fn allocate(method: u8, list: List, exercised: u32, draw: u32, amounts: &mut [u32]) -> Result<(u32, u32), u32> {
     match method {
         b'W' => judged(method, list, exercised, draw, amounts, wheel),
         b'P' => judged(method, list, exercised, draw, amounts, pro_rata),
@@ -92,25 +141,23 @@ pub fn allocate(
 
 /// As `allocate` for the wheel, with one division for each position and no walk over the blocks.
 pub fn allocate_wheel_by_division(
-    accounts: &[u32],
-    shorts: &[u32],
+    list: List,
     exercised: u32,
     draw: u32,
     amounts: &mut [u32],
 ) -> Result<(u32, u32), u32> {
-    judged(b'W', (accounts, shorts), exercised, draw, amounts, wheel_by_division)
+    judged(b'W', list, exercised, draw, amounts, wheel_by_division)
 }
 
 /// As `allocate` for pro rata, with the cut-off found as the library finds it: by bisection, a count over the decimal
 /// parts for each step.
 pub fn allocate_pro_rata_by_bisection(
-    accounts: &[u32],
-    shorts: &[u32],
+    list: List,
     exercised: u32,
     draw: u32,
     amounts: &mut [u32],
 ) -> Result<(u32, u32), u32> {
-    judged(b'P', (accounts, shorts), exercised, draw, amounts, pro_rata_by_bisection)
+    judged(b'P', list, exercised, draw, amounts, pro_rata_by_bisection)
 }
 
 fn interval(total: u32, blocks: u32) -> u64 {
@@ -342,6 +389,7 @@ fn lottery(shorts: &[u32], total: u32, exercised: u32, draw: u32, amounts: &mut 
 
 const NAMES_1: &[u8] = b"method,exercised,draw\n";
 const NAMES_3: &[u8] = b"account,short\n";
+const NAMES_3_WITH_CODE: &[u8] = b"code,account,short\n";
 
 /// A number from `at` up to the byte `end`, which stands after at most ten digits; the place after that byte.
 #[inline]
@@ -358,8 +406,29 @@ fn number(text: &[u8], at: usize, end: u8) -> Option<(u32, usize)> {
     None
 }
 
+/// Reads the position lines, with a code first where there is a column of codes; how many there are.
+#[inline]
+fn positions<const CODES: bool>(lines: &[u8], found: &mut [(u32, u32, u32); 1_024]) -> Result<usize, u32> {
+    let (mut count, mut at) = (0, 0);
+    while at < lines.len() {
+        let slot = found.get_mut(count).ok_or(15u32)?;
+        let (code, next) = number(lines, at, b',').ok_or(13u32)?;
+        let (account, next) = if CODES { number(lines, next, b',').ok_or(13u32)? } else { (code, next) };
+        let (short, next) = number(lines, next, b'\n').ok_or(13u32)?;
+        *slot = (code, account, short);
+        count += 1;
+        at = next;
+    }
+    Ok(count)
+}
+
 /// Method, S, draw and number of positions, or a refusal.
-pub fn read(text: &[u8], accounts: &mut [u32], shorts: &mut [u32]) -> Result<(u8, u32, u32, usize), u32> {
+pub fn read(
+    text: &[u8],
+    codes: &mut [u32],
+    accounts: &mut [u32],
+    shorts: &mut [u32],
+) -> Result<(u8, u32, u32, usize), u32> {
     if text.len() > 32_768 {
         return Err(11);
     }
@@ -375,23 +444,19 @@ pub fn read(text: &[u8], accounts: &mut [u32], shorts: &mut [u32]) -> Result<(u8
     }
     let (exercised, at) = number(line, 2, b',').ok_or(13u32)?;
     let (draw, _) = number(line, at, b'\n').ok_or(13u32)?;
-    let lines = rest[line_end + 1..].strip_prefix(NAMES_3).ok_or(12u32)?;
-    let mut found = [(0u32, 0u32); 1_024];
-    let mut count = 0;
-    let mut at = 0;
-    while at < lines.len() {
-        let slot = found.get_mut(count).ok_or(15u32)?;
-        let (account, next) = number(lines, at, b',').ok_or(13u32)?;
-        let (short, next) = number(lines, next, b'\n').ok_or(13u32)?;
-        *slot = (account, short);
-        count += 1;
-        at = next;
-    }
-    if accounts.len().min(shorts.len()) < count {
+    let rest = &rest[line_end + 1..];
+    let mut found = [(0, 0, 0); 1_024];
+    let count = if let Some(lines) = rest.strip_prefix(NAMES_3) {
+        positions::<false>(lines, &mut found)?
+    } else {
+        positions::<true>(rest.strip_prefix(NAMES_3_WITH_CODE).ok_or(12u32)?, &mut found)?
+    };
+    if codes.len().min(accounts.len()).min(shorts.len()) < count {
         return Err(4);
     }
-    for ((account, short), from) in accounts.iter_mut().zip(shorts.iter_mut()).zip(&found[..count]) {
-        (*account, *short) = *from;
+    let lists = codes.iter_mut().zip(accounts).zip(shorts);
+    for (((code, account), short), from) in lists.zip(&found[..count]) {
+        (*code, *account, *short) = *from;
     }
     Ok((method, exercised, draw, count))
 }
@@ -414,38 +479,45 @@ fn put(text: &mut [u8], at: usize, mut n: u32, end: u8) -> usize {
     stop + 1
 }
 
+fn put_bytes(text: &mut [u8], at: usize, bytes: &[u8]) -> usize {
+    text[at..at + bytes.len()].copy_from_slice(bytes);
+    at + bytes.len()
+}
+
 /// The length of the text, or a refusal.
-pub fn write(
-    method: u8,
-    exercised: u32,
-    draw: u32,
-    accounts: &[u32],
-    shorts: &[u32],
-    text: &mut [u8],
-) -> Result<usize, u32> {
+pub fn write(method: u8, exercised: u32, draw: u32, list: List, text: &mut [u8]) -> Result<usize, u32> {
+    let List { codes, accounts, shorts } = list;
     if !known(method) {
         return Err(14);
     }
-    if accounts.len() != shorts.len() {
+    if accounts.len() != shorts.len() || codes.len() != shorts.len() {
         return Err(1);
     }
     if accounts.len() > 1_024 {
         return Err(15);
     }
-    let fixed = NAMES_1.len() + NAMES_3.len() + 4 + digits(exercised) + digits(draw);
-    let listed: usize = accounts.iter().zip(shorts).map(|(&a, &s)| digits(a) + digits(s) + 2).sum();
-    if text.len() < fixed + listed {
+    let coded = codes != accounts;
+    let names_3 = if coded { NAMES_3_WITH_CODE } else { NAMES_3 };
+    let mut length = NAMES_1.len() + names_3.len() + 4 + digits(exercised) + digits(draw);
+    length += accounts.iter().zip(shorts).map(|(&a, &s)| digits(a) + digits(s) + 2).sum::<usize>();
+    if coded {
+        length += codes.iter().map(|&code| digits(code) + 1).sum::<usize>();
+    }
+    if length > 32_768 {
+        return Err(11);
+    }
+    if text.len() < length {
         return Err(4);
     }
-    text[..NAMES_1.len()].copy_from_slice(NAMES_1);
-    let mut at = NAMES_1.len();
-    text[at] = method;
-    text[at + 1] = b',';
-    at = put(text, at + 2, exercised, b',');
+    let mut at = put_bytes(text, 0, NAMES_1);
+    at = put_bytes(text, at, &[method, b',']);
+    at = put(text, at, exercised, b',');
     at = put(text, at, draw, b'\n');
-    text[at..at + NAMES_3.len()].copy_from_slice(NAMES_3);
-    at += NAMES_3.len();
-    for (&account, &short) in accounts.iter().zip(shorts) {
+    at = put_bytes(text, at, names_3);
+    for ((&code, &account), &short) in codes.iter().zip(accounts).zip(shorts) {
+        if coded {
+            at = put(text, at, code, b',');
+        }
         at = put(text, at, account, b',');
         at = put(text, at, short, b'\n');
     }

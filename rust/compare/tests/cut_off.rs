@@ -108,10 +108,11 @@ impl Cases {
     // Holds a series with the draws given, those at the ends and about g, and a random one; answers g and m.
     #[track_caller]
     fn series(&mut self, list: &Series, exercised: u32, draws: &[u32]) -> Option<(u32, u32)> {
+        let list = &make::coded(&mut self.random, b'P', list);
         let shares = shares(list, exercised);
         let remaining = exercised - shares.iter().map(|share| share.0).sum::<u32>();
         let show = |draw: u32, shown: String| {
-            let case = cases::allocate(b'P', &list.accounts, &list.shorts, exercised, draw, list.accounts.len());
+            let case = cases::allocate(b'P', list.list(), exercised, draw, list.accounts.len());
             format!("{case}\n  {shown}")
         };
         let cut_off = match cut_off(list, exercised, &shares, remaining) {
@@ -127,11 +128,11 @@ impl Cases {
             let expected = walk(&shares, cut_off, draw);
             let wanted = Ok(Allocated { total: list.total() as u32, further: remaining });
             let mut amounts = vec![u32::MAX; list.shorts.len()];
-            let found =
-                dilbreth::allocate(Method::ProRata, &list.accounts, &list.shorts, exercised, draw, &mut amounts);
+            let Series { codes, accounts, shorts } = list;
+            let found = dilbreth::allocate(Method::ProRata, codes, accounts, shorts, exercised, draw, &mut amounts);
             let differs = expected.iter().zip(&amounts).position(|(a, b)| a != b);
             self.count.case(if found == wanted && differs.is_none() {
-                compare::allocate(b'P', &list.accounts, &list.shorts, exercised, draw, list.accounts.len())
+                compare::allocate(b'P', list.list(), exercised, draw, list.accounts.len()).map(|number| number == 0)
             } else {
                 let by = format!("by {cut_off:?}: expected {wanted:?}, found {found:?}; amounts differ at {differs:?}");
                 Err(show(draw, by))
@@ -163,7 +164,7 @@ impl Cases {
 }
 
 fn list(shorts: Vec<u32>) -> Series {
-    Series { accounts: make::upward(shorts.len()), shorts }
+    Series::by_account(make::upward(shorts.len()), shorts)
 }
 
 // Shorts that are each a multiple of d.
@@ -317,7 +318,7 @@ fn one_position() {
         let random = &mut cases.random;
         let short = random.spread(MOST) as u32;
         let exercised = random.between(1, u64::from(short)) as u32;
-        cases.series(&Series { accounts: vec![u32::MAX], shorts: vec![short] }, exercised, &[]);
+        cases.series(&Series::by_account(vec![u32::MAX], vec![short]), exercised, &[]);
     }
     cases.end([true, true, false, false, false]);
 }

@@ -26,19 +26,39 @@ fn shown_after(words: &str) -> String {
     block.map_while(|line| line.strip_prefix("    ")).map(|line| format!("{line}\n")).collect()
 }
 
+// The names of the texts, and whether each is refused.
+fn examples() -> Vec<(String, bool)> {
+    let paths = fs::read_dir(folder()).unwrap().map(|entry| entry.unwrap().path());
+    let texts = paths.filter(|path| path.extension().is_some_and(|e| e == "txt"));
+    let names = texts.map(|path| path.file_stem().unwrap().to_str().unwrap().to_string());
+    names.map(|name| (name.clone(), file(&format!("{name}.out")).starts_with("refused\n"))).collect()
+}
+
 #[test]
 fn every_example_prints_what_is_stored_and_shown() {
-    let names = ["wheel", "pro-rata", "lottery", "leading-zeros", "whole", "after-day", "refused"];
-    for name in names {
+    let examples = examples();
+    for (name, refused) in &examples {
         let stored = file(&format!("{name}.out"));
         let found = program::run(file(&format!("{name}.txt")).as_bytes(), Feed::Pipe);
         assert_eq!(String::from_utf8(found.stdout).unwrap(), stored, "{name}");
-        assert_eq!(found.stderr.is_empty(), name != "refused", "{name}");
+        assert_eq!(found.stderr.is_empty(), !refused, "{name}");
         assert_eq!(shown_after(&format!("`examples/{name}.txt`")), stored, "{name}");
     }
-    let texts = fs::read_dir(folder()).unwrap().map(|entry| entry.unwrap().path());
-    assert_eq!(texts.filter(|path| path.extension().is_some_and(|e| e == "txt")).count(), names.len());
+    for name in ["wheel", "pro-rata", "lottery", "leading-zeros", "whole", "after-day", "refused"] {
+        assert!(examples.contains(&(name.to_string(), name == "refused")), "{name}");
+    }
     assert_eq!(shown_after("## The text of a series"), file("lottery.txt"));
+}
+
+// One example has its positions in another order than that of their accounts.
+#[test]
+fn an_example_has_codes() {
+    let mut by_code = 0;
+    for (name, _) in examples() {
+        let series = reference::read_text(file(&format!("{name}.txt")).as_bytes());
+        by_code += u32::from(series.is_ok_and(|series| !series.accounts.is_sorted() && series.codes.is_sorted()));
+    }
+    assert!(by_code > 0);
 }
 
 fn book(assign: &Path, text: &str) -> Output {
@@ -47,7 +67,7 @@ fn book(assign: &Path, text: &str) -> Output {
 
 #[test]
 fn only_a_whole_list_is_booked() {
-    for name in ["wheel", "pro-rata", "lottery", "leading-zeros", "whole", "after-day"] {
+    for (name, _) in examples().iter().filter(|(_, refused)| !refused) {
         let found = book(&program::path(), &format!("{name}.txt"));
         assert!(found.status.success() && found.stderr.is_empty(), "{name}");
         assert_eq!(String::from_utf8(found.stdout).unwrap(), file(&format!("{name}.out")), "{name}");

@@ -1,15 +1,20 @@
 // The limits of the document, and lists to which several refusals apply.
 
 use compare::make::{draws, upward, METHODS};
-use compare::Count;
+use compare::{Count, List};
 
 const MOST: u32 = 10_000_000;
 
+// With the accounts as codes; W also with other codes and the accounts in falling order.
 fn each_method(count: &mut Count, accounts: &[u32], shorts: &[u32], exercised: &[u32], draws: &[u32]) {
-    for method in METHODS {
+    let codes = upward(accounts.len());
+    let falling: Vec<u32> = accounts.iter().rev().copied().collect();
+    let list = List::by_account(accounts, shorts);
+    let by_code = List { codes: &codes, accounts: &falling, shorts };
+    for (method, list) in METHODS.map(|method| (method, list)).into_iter().chain([(b'W', by_code)]) {
         for &s in exercised {
             for &draw in draws {
-                count.allocate(method, accounts, shorts, s, draw, accounts.len());
+                count.allocate(method, list, s, draw, accounts.len());
             }
         }
     }
@@ -46,7 +51,7 @@ fn number_of_contracts() {
         each_method(&mut count, &accounts, &base, &[0, MOST, MOST + 1, u32::MAX], &draws(MOST));
         for draw in [0, 1, MOST - 1, MOST, MOST + 1, u32::MAX] {
             for method in *b"WL" {
-                count.allocate(method, &accounts, &base, MOST - 1, draw, base.len());
+                count.allocate(method, List::by_account(&accounts, &base), MOST - 1, draw, base.len());
             }
         }
         for at in [0, base.len() / 2, base.len() - 1] {
@@ -81,14 +86,19 @@ fn lengths_of_the_lists() {
     let lengths = [0, 1, 2, 3, 4_095, 4_096, 4_097, 4_098];
     let accounts = upward(4_098);
     let shorts = vec![2; 4_098];
-    for &a in &lengths {
-        for &s in &lengths {
-            for room in [0, 1, 2, 3, 4, 4_095, 4_096, 4_097, 5_000] {
-                for method in [b'W', b'P', b'L', b'X'] {
-                    for exercised in [0, 1] {
-                        count.allocate(method, &accounts[..a], &shorts[..s], exercised, 1, room);
+    for a in lengths {
+        for s in lengths {
+            // Codes as many as the shorts, as many as the accounts, and of other lengths.
+            for c in [s, a, 0, 2, 4_097] {
+                let list = List { codes: &accounts[..c], accounts: &accounts[..a], shorts: &shorts[..s] };
+                for room in [0, 1, 2, 3, 4, 4_095, 4_096, 4_097, 5_000] {
+                    for method in [b'W', b'P', b'L', b'X'] {
+                        for exercised in [0, 1] {
+                            count.allocate(method, list, exercised, 1, room);
+                        }
                     }
                 }
+                count.case(compare::write(b'P', 1, 1, list, 40_000));
             }
         }
     }
@@ -99,17 +109,28 @@ fn lengths_of_the_lists() {
 fn every_method_byte() {
     let mut count = Count::new("limits, methods");
     for method in 0..=255 {
-        count.allocate(method, &[1, 2], &[30, 40], 26, 7, 2);
-        count.allocate(method, &[], &[1], 0, 0, 0);
-        count.allocate(method, &[0], &[0], 0, 0, 0);
-        count.case(compare::write(method, 26, 7, &[1, 2], &[30, 40], 100));
-        count.case(compare::write(method, 26, 7, &[1, 2], &[30], 100));
-        count.case(compare::write(method, 26, 7, &[1, 2], &[30, 40], 0));
-        let text = [&b"method,exercised,draw\n"[..], &[method], b",26,7\naccount,short\n1,30\n2,40\n"].concat();
-        count.case(compare::read(&text, 2, 2));
-        count.case(compare::respond(&text, 100));
+        let (accounts, shorts) = (&[1, 2], &[30, 40]);
+        for codes in [&[1, 2][..], &[1, 3], &[2, 1], &[2]] {
+            let list = List { codes, accounts, shorts };
+            count.allocate(method, list, 26, 7, 2);
+            count.case(compare::write(method, 26, 7, list, 100));
+            count.case(compare::write(method, 26, 7, list, 0));
+            count.case(compare::write(method, 26, 7, List { shorts: &[30], ..list }, 100));
+        }
+        count.allocate(method, List::by_account(&[], &[1]), 0, 0, 0);
+        count.allocate(method, List::by_account(&[0], &[0]), 0, 0, 0);
+        for lines in ["account,short\n1,30\n2,40\n", "code,account,short\n1,2,30\n2,1,40\n"] {
+            let text = [&b"method,exercised,draw\n"[..], &[method], b",26,7\n", lines.as_bytes()].concat();
+            count.case(compare::read(&text, [2; 3]));
+            count.case(compare::respond(&text, 100));
+        }
     }
     count.print();
+}
+
+// Codes for three accounts: the accounts, some that rise, and some with a fault at each position.
+fn codes_for(accounts: [u32; 3]) -> [[u32; 3]; 7] {
+    [accounts, [1, 2, 3], [7, 8, u32::MAX], [0, 2, 3], [2, 2, 3], [1, 2, 2], [5, 6, 0]]
 }
 
 // All lists of three positions from a few accounts and shorts: every order in which refusals can meet.
@@ -118,35 +139,44 @@ fn several_refusals_at_once() {
     let mut count = Count::new("limits, several refusals");
     let accounts = [0, 1, 2, u32::MAX];
     let shorts = [0, 1, MOST, MOST + 1, u32::MAX];
-    for code in 0..4u32.pow(3) * 5u32.pow(3) {
+    for number in 0..4u32.pow(3) * 5u32.pow(3) {
         let (mut a, mut s) = ([0; 3], [0; 3]);
-        let mut rest = code as usize;
+        let mut rest = number as usize;
         for i in 0..3 {
             a[i] = accounts[rest % 4];
             rest /= 4;
             s[i] = shorts[rest % 5];
             rest /= 5;
         }
-        for method in METHODS {
-            for exercised in [0, 1, 3, 4, u32::MAX] {
-                for draw in [0, 1, u32::MAX] {
-                    for (n, m, room) in [(3, 3, 3), (3, 3, 2), (2, 2, 3), (3, 2, 0)] {
-                        // Large T belongs to the other tests.
-                        if s[..m].iter().all(|&x| x != MOST) || exercised != 3 || method == b'P' {
-                            count.allocate(method, &a[..n], &s[..m], exercised, draw, room);
-                        }
-                    }
+        for (c, codes) in codes_for(a).iter().enumerate() {
+            for (n, m, room) in [(3, 3, 3), (3, 3, 2), (2, 2, 3), (3, 2, 0)] {
+                let list = List { codes: &codes[..n], accounts: &a[..n], shorts: &s[..m] };
+                // P and L look at no code.
+                for &method in if c == 0 { &METHODS[..] } else { b"W" } {
+                    each_exercised(&mut count, method, list, room);
                 }
             }
         }
     }
     count.print();
+    assert!(!count.met([0, 1, 4, 5, 6, 7, 8, 9, 10, 19]).contains(&0));
 }
 
-// One list handed over as both accounts and shorts: what is only read may be shared.
+fn each_exercised(count: &mut Count, method: u8, list: List, room: usize) {
+    for exercised in [0, 1, 3, 4, u32::MAX] {
+        for draw in [0, 1, u32::MAX] {
+            // Large T belongs to the other tests.
+            if list.shorts.iter().all(|&short| short != MOST) || exercised != 3 || method == b'P' {
+                count.allocate(method, list, exercised, draw, room);
+            }
+        }
+    }
+}
+
+// One list handed over as codes, accounts and shorts: what is only read may be shared.
 #[test]
 fn accounts_that_are_the_shorts() {
-    let mut count = Count::new("limits, one list as both");
+    let mut count = Count::new("limits, one list as all");
     for positions in [1, 2, 5, 40, 1_000] {
         let list = upward(positions);
         let total: u32 = list.iter().sum();

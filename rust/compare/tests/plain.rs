@@ -1,60 +1,81 @@
 // What the benchmarks measure against gives the same answers.
 
 use compare::random::Random;
-use compare::{cases, days, make, plain, Count};
+use compare::{cases, days, make, plain, Count, List};
+use reference::{Allocation, Series};
+
+// Holds an allocation by plain Rust against the separate version; `room` is the length of the output.
+#[track_caller]
+fn hold(
+    what: &str,
+    (method, list, exercised, draw, room): (u8, List, u32, u32, usize),
+    allocate: impl FnOnce(&mut [u32]) -> Result<(u32, u32), u32>,
+) -> Result<Allocation, u32> {
+    let expected = reference::allocate(method, list, exercised, draw, room);
+    let mut amounts = vec![77; room];
+    let found = allocate(&mut amounts);
+    let found = found.map(|(total, further)| Allocation { amounts, total, further });
+    assert_eq!(found, expected, "{what}: {}", cases::allocate(method, list, exercised, draw, room));
+    expected
+}
 
 #[test]
 fn plain_allocation() {
     let mut random = Random::new(0xBE7C_0001);
     let mut count = Count::new("plain");
+    let mut met = [0; 20];
     for case in 0..20_000 {
         let (positions, most) = if case % 100 == 0 { (4_096, 300_000) } else { (40, 2_000) };
         let positions = random.between(1, positions);
         let most = random.between(positions, most);
-        let mut list = make::series(&mut random, positions as usize, most, false);
+        let list = make::series(&mut random, positions as usize, most, false);
         let method = random.pick(&make::METHODS);
+        let mut list = make::coded(&mut random, method, &list);
         let (exercised, draw) = make::terms(&mut random, method, positions as usize, list.total());
         if random.one_in(10) {
             make::spoil(&mut random, &mut list);
         }
         let room = list.accounts.len().saturating_sub(usize::from(random.one_in(20)));
-        let expected = reference::allocate(method, &list.accounts, &list.shorts, exercised, draw, room);
-        let shown = cases::allocate(method, &list.accounts, &list.shorts, exercised, draw, room);
-        let mut amounts = vec![77; room];
-        let found = plain::allocate(method, &list.accounts, &list.shorts, exercised, draw, &mut amounts);
-        let found = found.map(|(total, further)| reference::Allocation { amounts, total, further });
-        assert_eq!(found, expected, "{shown}");
-        if method == b'W' {
-            let mut amounts = vec![77; room];
-            let found = plain::allocate_wheel_by_division(&list.accounts, &list.shorts, exercised, draw, &mut amounts);
-            let found = found.map(|(total, further)| reference::Allocation { amounts, total, further });
-            assert_eq!(found, expected, "by division: {shown}");
+        let call = (method, list.list(), exercised, draw, room);
+        let answer = hold("plain", call, |out| plain::allocate(method, list.list(), exercised, draw, out));
+        let other = match method {
+            b'W' => plain::allocate_wheel_by_division,
+            _ => plain::allocate_pro_rata_by_bisection,
+        };
+        if method != b'L' {
+            let _ = hold("the other way", call, |out| other(list.list(), exercised, draw, out));
         }
-        if method == b'P' {
-            let mut amounts = vec![77; room];
-            let found =
-                plain::allocate_pro_rata_by_bisection(&list.accounts, &list.shorts, exercised, draw, &mut amounts);
-            let found = found.map(|(total, further)| reference::Allocation { amounts, total, further });
-            assert_eq!(found, expected, "by bisection: {shown}");
-        }
-        if count.case(Ok(expected.is_ok())) {
+        met[answer.as_ref().err().map_or(0, |&number| number as usize)] += 1;
+        if count.case(Ok(answer.is_ok())) {
             count.allocated(method, &list.shorts, exercised, draw);
         }
     }
     count.print();
     assert!(!count.undrawn().contains(&0));
+    println!("plain: {} refused by 5, {} by 19", met[5], met[19]);
+    assert!(met[5] > 0 && met[19] > 0);
 }
 
 // Holds the reading of a text against the separate version; the series, where there is one.
-fn read(text: &[u8], room: usize) -> Result<reference::Series, u32> {
-    let (mut accounts, mut shorts) = (vec![0; room], vec![0; room]);
-    let found = plain::read(text, &mut accounts, &mut shorts);
+fn read(text: &[u8], rooms: [usize; 3]) -> Result<Series, u32> {
+    let [mut codes, mut accounts, mut shorts] = rooms.map(|room| vec![0; room]);
+    let found = plain::read(text, &mut codes, &mut accounts, &mut shorts);
     let found = found.map(|(method, exercised, draw, count)| {
-        accounts.truncate(count);
-        shorts.truncate(count);
-        reference::Series { method, exercised, draw, accounts, shorts }
+        for list in [&mut codes, &mut accounts, &mut shorts] {
+            list.truncate(count);
+        }
+        Series { method, exercised, draw, codes, accounts, shorts }
     });
-    assert_eq!(found, reference::read(text, room, room), "{}", cases::read(text, room, room));
+    assert_eq!(found, reference::read(text, rooms), "{}", cases::read(text, rooms));
+    found
+}
+
+// Holds the writing of a list against the separate version; the text, where there is one.
+fn write(method: u8, exercised: u32, draw: u32, list: List, room: usize) -> Result<Vec<u8>, u32> {
+    let mut text = vec![0; room];
+    let found = plain::write(method, exercised, draw, list, &mut text).map(|length| text[..length].to_vec());
+    let shown = || cases::write(method, exercised, draw, list, room);
+    assert_eq!(found, reference::write(method, exercised, draw, list, room), "{}", shown());
     found
 }
 
@@ -62,28 +83,43 @@ fn read(text: &[u8], room: usize) -> Result<reference::Series, u32> {
 fn plain_texts() {
     let mut random = Random::new(0xBE7C_0002);
     let mut count = Count::new("plain texts");
-    let mut zeros = 0;
+    let (mut otherwise, mut coded) = (0, 0);
     for _ in 0..15_000 {
         let lines = make::lines(&mut random);
         let mut text = make::text(&mut random, lines);
         if random.one_in(2) {
             make::damage(&mut random, &mut text);
         }
-        let room = random.pick(&[1_024, lines]);
-        let found = read(&text, room);
+        let rooms = [(); 3].map(|_| if random.one_in(8) { lines.saturating_sub(1) } else { 1_024.max(lines) });
+        let found = read(&text, rooms);
         count.case(Ok(found.is_ok()));
         if let Ok(s) = found {
-            let expected = reference::write(s.method, s.exercised, s.draw, &s.accounts, &s.shorts, usize::MAX).unwrap();
-            let mut out = vec![0; expected.len() + 5];
-            let length = plain::write(s.method, s.exercised, s.draw, &s.accounts, &s.shorts, &mut out);
-            assert_eq!(length, Ok(expected.len()));
-            assert_eq!(out[..expected.len()], expected[..]);
-            zeros += u32::from(expected != text);
+            let written = write(s.method, s.exercised, s.draw, s.list(), 32_768).unwrap();
+            assert_eq!(write(s.method, s.exercised, s.draw, s.list(), written.len() - 1), Err(4));
+            otherwise += u32::from(written != text);
+            coded += u32::from(make::has_codes(&written));
         }
     }
     count.print();
-    println!("plain texts: {zeros} accepted with leading zeros");
-    assert!(zeros > 1_000);
+    println!("plain texts: {otherwise} accepted and written otherwise, {coded} with codes");
+    assert!(otherwise > 1_000 && coded > 1_000);
+}
+
+#[test]
+fn plain_writing() {
+    for (lengths, answer) in [([1, 2, 2], 1), ([2, 1, 2], 1), ([2, 2, 1], 1), ([1_025; 3], 15), ([1_024; 3], 11)] {
+        let [codes, accounts, shorts] = lengths.map(|length| vec![u32::MAX; length]);
+        let accounts: Vec<u32> = accounts.iter().map(|account| account - 1).collect();
+        let list = List { codes: &codes, accounts: &accounts, shorts: &shorts };
+        for room in [0, 40_000] {
+            assert_eq!(write(b'P', 1, 1, list, room), Err(answer), "{lengths:?}");
+            assert_eq!(write(b'p', 1, 1, list, room), Err(14), "{lengths:?}");
+        }
+    }
+    for length in 32_766..=32_770 {
+        let list = make::list_of_length(length);
+        assert_eq!(write(b'W', 1, 1, list.list(), 40_000).is_ok(), length <= 32_768);
+    }
 }
 
 #[test]
@@ -93,16 +129,16 @@ fn plain_numbers() {
         for zeros in 0..=12 {
             let number = format!("{}{value}", "0".repeat(zeros));
             for field in 0..make::FIELDS {
-                let found = read(&make::in_field(field, &number), 1);
+                let found = read(&make::in_field(field, &number), [1; 3]);
                 assert_eq!(found.is_ok(), number.len() <= 10 && value <= most, "{number}");
                 for malformed in [format!("{number}x"), format!(" {number}")] {
-                    assert_eq!(read(&make::in_field(field, &malformed), 1), Err(13));
+                    assert_eq!(read(&make::in_field(field, &malformed), [1; 3]), Err(13));
                 }
             }
         }
     }
     for field in 0..make::FIELDS {
-        assert_eq!(read(&make::in_field(field, ""), 1), Err(13));
+        assert_eq!(read(&make::in_field(field, ""), [1; 3]), Err(13));
     }
 }
 

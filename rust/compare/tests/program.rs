@@ -29,6 +29,33 @@ fn case_m_in_full() {
     }
 }
 
+// A with codes, and the same in the order of the accounts, which the wheel does not ask for.
+#[test]
+fn codes() {
+    let by_code = "method,exercised,draw\nW,175,1\ncode,account,short\n3,20,60\n7,4,200\n4294967295,11,95\n";
+    let falling = "method,exercised,draw\nW,175,1\ncode,account,short\n7,4,200\n3,20,60\n";
+    let assigned = "account,assigned\n20,35\n4,97\n11,43\n";
+    for (text, printed) in [
+        (by_code, assigned),
+        (&by_code.replace("7,4,", "0007,0000000004,"), assigned),
+        (&by_code.replace("code,account,short\n3,20", "account,short\n3"), "refused\n13\n"),
+        (&by_code.replace("code,", ""), "refused\n13\n"),
+        (&by_code.replace("7,4,200", "4,200"), "refused\n13\n"),
+        (falling, "refused\n5\n"),
+        (&by_code.replace(",11,", ",20,"), "refused\n19\n"),
+        (&by_code.replace(",4,", ",0,"), "refused\n19\n"),
+        (&by_code.replace("7,4,", "3,20,"), "refused\n5\n"),
+        (&by_code.replace("W,", "P,"), "refused\n5\n"),
+        (&by_code.replace("W,", "L,").replace("20,", "2,"), "account,assigned\n2,60\n4,115\n11,0\n"),
+    ] {
+        for feed in [Feed::Pipe, Feed::File] {
+            let found = program::run(text.as_bytes(), feed).stdout;
+            assert_eq!(String::from_utf8_lossy(&found), printed, "{text}");
+            assert_eq!(program::compare(text.as_bytes(), feed), Ok(printed.starts_with("account")));
+        }
+    }
+}
+
 #[test]
 fn leading_zeros() {
     let m = "method,exercised,draw\nL,0013,0000004855\naccount,short\n0001,5\n0002,08\n03,002\n4,10\n0000000005,11\n";
@@ -51,6 +78,7 @@ fn leading_zeros() {
 fn random_texts() {
     let mut random = Random::new(0xA551_0001);
     let mut count = Count::new("program, random texts");
+    let mut coded = 0;
     for case in 0..600 {
         let lines = make::lines(&mut random);
         let mut text = make::text(&mut random, lines);
@@ -63,10 +91,13 @@ fn random_texts() {
         if count.case(program::compare(&text, feed)) {
             let series = reference::read_text(&text).expect("a series");
             count.allocated(series.method, &series.shorts, series.exercised, series.draw);
+            coded += u32::from(series.codes != series.accounts);
         }
     }
     count.print();
+    println!("program, random texts: {coded} allocated with codes");
     assert!(!count.undrawn().contains(&0));
+    assert!(coded > 20);
 }
 
 #[test]
@@ -104,6 +135,10 @@ fn empty_and_too_long() {
             let mut text = M.to_vec();
             text.resize(length, b'\n');
             count.case(program::compare(&text, feed));
+        }
+        for length in [32_767, 32_768, 32_769] {
+            let text = make::text_of_length(length);
+            assert_eq!(program::compare(&text, feed), Ok(length <= 32_768));
         }
     }
     count.print();

@@ -1,7 +1,8 @@
 // Random series with fixed seeds, each under the three methods.
 
+use compare::make::{self, Series};
 use compare::random::Random;
-use compare::{make, Count};
+use compare::Count;
 
 struct Size {
     what: &'static str,
@@ -16,11 +17,12 @@ fn run(size: Size) {
     let mut count = Count::new(size.what);
     for _ in 0..size.series {
         for make::Call { method, list, exercised, draw, room } in make::calls(&mut random, size.positions, size.total) {
-            count.allocate(method, &list.accounts, &list.shorts, exercised, draw, room);
+            count.allocate(method, list.list(), exercised, draw, room);
         }
     }
     count.print();
     assert!(!count.undrawn().contains(&0));
+    assert!(!count.met([1, 5, 6, 7, 19]).contains(&0));
 }
 
 #[test]
@@ -47,7 +49,8 @@ fn largest(what: &'static str, seed: u64) {
         let list = make::series(&mut random, positions, 10_000_000, exact);
         for method in make::METHODS {
             let (exercised, draw) = make::terms(&mut random, method, positions, list.total());
-            count.allocate(method, &list.accounts, &list.shorts, exercised, draw, positions + 1);
+            let list = make::coded(&mut random, method, &list);
+            count.allocate(method, list.list(), exercised, draw, positions + 1);
         }
     }
     count.print();
@@ -76,8 +79,9 @@ fn halves_of_the_skip_interval() {
         assert_eq!(total * 1_000_000 % blocks * 2, blocks);
         let exercised = (25 * blocks - random.below(25)).min(total - 1);
         let list = make::series(&mut random, 60, total, true);
+        let list = make::coded(&mut random, b'W', &list);
         let draw = random.between(1, total) as u32;
-        count.allocate(b'W', &list.accounts, &list.shorts, exercised as u32, draw, 60);
+        count.allocate(b'W', list.list(), exercised as u32, draw, 60);
     }
     count.print();
 }
@@ -98,7 +102,8 @@ fn ties_in_round_two() {
             1 => random.below(100) as u32,
             _ => u32::MAX - random.below(100) as u32,
         };
-        count.allocate(b'P', &make::upward(positions), &shorts, exercised, draw, positions);
+        let list = make::coded(&mut random, b'P', &Series::by_account(make::upward(positions), shorts));
+        count.allocate(b'P', list.list(), exercised, draw, positions);
     }
     count.print();
 }
@@ -113,8 +118,9 @@ fn nearly_the_whole_wheel() {
         let positions = random.between(1, total.min(40)) as usize;
         let list = make::series(&mut random, positions, total, true);
         let exercised = (total - random.between(1, total.min(80) - 1)) as u32;
+        let list = make::coded(&mut random, b'W', &list);
         let draw = random.between(1, total) as u32;
-        count.allocate(b'W', &list.accounts, &list.shorts, exercised, draw, positions);
+        count.allocate(b'W', list.list(), exercised, draw, positions);
     }
     count.print();
 }

@@ -1,12 +1,12 @@
 // Over all starting places a position gets its shorts × S, by the library's own amounts.
 
-use compare::make;
 use compare::random::Random;
+use compare::{make, List};
 use dilbreth::Method;
 
 // Answers whether each starting place was handed back.
-fn shares(method: Method, shorts: &[u32], exercised: u32, total: u32) -> bool {
-    let accounts = make::upward(shorts.len());
+fn shares(method: Method, list: List, exercised: u32, total: u32) -> bool {
+    let List { codes, accounts, shorts } = list;
     let mut amounts = vec![0; shorts.len()];
     let mut sums = vec![0u64; shorts.len()];
     // A whole series and one position have no starting place.
@@ -14,8 +14,8 @@ fn shares(method: Method, shorts: &[u32], exercised: u32, total: u32) -> bool {
     for place in 1..=total {
         // Under L a draw that leads to the place; there is one where T is at most 10,000.
         let draw = if method == Method::Wheel { place } else { place * 10_000 / total };
-        let answer =
-            dilbreth::allocate(method, &accounts, shorts, exercised, draw, &mut amounts).expect("an allocation");
+        let answer = dilbreth::allocate(method, codes, accounts, shorts, exercised, draw, &mut amounts);
+        let answer = answer.expect("an allocation");
         if method == Method::Lottery {
             assert_eq!(answer.further, if started { place } else { 0 });
         }
@@ -39,8 +39,9 @@ fn every_starting_place() {
             let list = make::series(&mut random, positions, most, true);
             let exercised = random.between(1, most) as u32;
             for method in [Method::Wheel, Method::Lottery] {
+                let list = make::coded(&mut random, method.byte(), &list);
                 for exercised in [exercised, most as u32 - 1, most as u32] {
-                    started += u32::from(shares(method, &list.shorts, exercised, most as u32));
+                    started += u32::from(shares(method, list.list(), exercised, most as u32));
                     series += 1;
                 }
             }

@@ -1,6 +1,6 @@
-// Every list with T up to 7, every S from 0 to T + 1.
+// Every list with T up to 7, every S from 0 to T + 1; every list of up to three codes and accounts from 0 to 3.
 
-use compare::{make, Count};
+use compare::{make, Count, List};
 
 // `undrawn` is how many whole series, and others of one position, are allocated with a draw out of range.
 fn all(what: &'static str, method: u8, undrawn: [u64; 2], draws: impl Fn(u32) -> Vec<u32>) {
@@ -13,7 +13,7 @@ fn all(what: &'static str, method: u8, undrawn: [u64; 2], draws: impl Fn(u32) ->
             for exercised in 0..=total + 1 {
                 for &draw in &draws {
                     let room = list.shorts.len() + (draw % 3) as usize;
-                    count.allocate(method, &list.accounts, &list.shorts, exercised, draw, room);
+                    count.allocate(method, list.list(), exercised, draw, room);
                 }
             }
         }
@@ -40,4 +40,58 @@ fn every_small_lottery() {
     // Draws 0, 10,001 and the largest; one position has 1 to T - 1 contracts exercised.
     let undrawn = [127 * 3, 21 * 3];
     all("small L", b'L', undrawn, |_| (0..=10_001).chain([u32::MAX]).collect());
+}
+
+// The lists of a length with numbers from 0 to 3.
+fn up_to_three(length: u32) -> impl Iterator<Item = Vec<u32>> {
+    (0..4u32.pow(length)).map(move |digits| (0..length).map(|i| digits >> (2 * i) & 3).collect())
+}
+
+// How many lists of a length rise from above 0, and how many have accounts above 0 that differ.
+const RISING: [u64; 4] = [1, 3, 3, 1];
+const DIFFERENT: [u64; 4] = [1, 3, 6, 6];
+
+#[test]
+fn every_small_list_of_codes_and_accounts() {
+    let mut count = Count::new("small codes and accounts");
+    let shorts = [2, 30, 1];
+    for length in 1..=3 {
+        let shorts = &shorts[..length];
+        let total = shorts.iter().sum::<u32>();
+        let mut accepted = [0; 3];
+        for codes in up_to_three(length as u32) {
+            for accounts in up_to_three(length as u32) {
+                let list = List { codes: &codes, accounts: &accounts, shorts };
+                for (method, accepted) in make::METHODS.into_iter().zip(&mut accepted) {
+                    for (exercised, draw) in [(total, 0), (total - 1, 2), (1, 0), (total + 1, 1)] {
+                        let number = count.allocate(method, list, exercised, draw, length);
+                        *accepted += u64::from(exercised == total && number == 0);
+                    }
+                }
+            }
+        }
+        let by_account = RISING[length] * 4u64.pow(length as u32);
+        assert_eq!(accepted, [RISING[length] * DIFFERENT[length], by_account, by_account]);
+    }
+    count.print();
+}
+
+// Codes, accounts, shorts and an output of each length up to three: who is refused by 1, and what comes first.
+#[test]
+fn every_small_length_of_codes_and_accounts() {
+    let mut count = Count::new("small lengths");
+    for [c, a, s, room] in up_to_three(4).map(|lengths| [0, 1, 2, 3].map(|i| lengths[i] as usize)) {
+        for numbers in up_to_three(3) {
+            let list = List { codes: &numbers[..c], accounts: &[3, 1, 2][..a], shorts: &[4, 5, 6][..s] };
+            let other = List { codes: &[3, 1, 2][..c], accounts: &numbers[..a], shorts: &[4, 5, 6][..s] };
+            for method in *b"WPLX" {
+                for list in [list, other] {
+                    count.allocate(method, list, 1, 1, room);
+                }
+                count.case(compare::write(method, 1, 1, list, 20 * room + 40));
+            }
+        }
+    }
+    count.print();
+    assert!(!count.met([0, 1, 3, 4, 5, 14, 19]).contains(&0));
 }

@@ -1,36 +1,75 @@
 // The calls on a thread that has 64 KB of stack in all.
 
-use compare::make;
+use compare::make::{self, Series};
+use compare::random::Random;
 use dilbreth::calls;
 
 fn on_a_small_stack(call: impl FnOnce() + Send + 'static) {
     std::thread::Builder::new().stack_size(64 * 1024).spawn(call).expect("a thread").join().expect("a return");
 }
 
-#[test]
-fn allocating() {
-    for method in make::METHODS {
-        for (s, draw) in [(4_999_999, 10_000), (9_998_336, 0)] {
-            let (accounts, shorts) = (make::upward(4_096), vec![2_441; 4_096]);
-            let mut amounts = vec![0; 4_096];
-            on_a_small_stack(move || {
-                let (mut total, mut further) = (0, 0);
-                let number =
-                    calls::allocate(method, &accounts, &shorts, s, draw, &mut amounts, &mut total, &mut further);
-                assert_eq!((number, total), (0, 9_998_336));
-                assert_eq!(amounts.iter().sum::<u32>(), s);
-            });
-        }
+// All of 4,096 positions with 2,441 contracts each.
+fn allocate(method: u8, codes: Vec<u32>, accounts: Vec<u32>) {
+    for (s, draw) in [(4_999_999, 10_000), (9_998_336, 0)] {
+        let (codes, accounts, shorts) = (codes.clone(), accounts.clone(), vec![2_441; 4_096]);
+        let mut amounts = vec![0; 4_096];
+        on_a_small_stack(move || {
+            let (mut total, mut further) = (0, 0);
+            let out = &mut amounts;
+            let number = calls::allocate(method, &codes, &accounts, &shorts, s, draw, out, &mut total, &mut further);
+            assert_eq!((number, total), (0, 9_998_336));
+            assert_eq!(amounts.iter().sum::<u32>(), s);
+        });
     }
 }
 
 #[test]
-fn responding() {
-    let text = reference::write(b'P', 700_000, 5, &make::upward(1_024), &[977; 1_024], usize::MAX).expect("a text");
+fn allocating() {
+    for method in make::METHODS {
+        allocate(method, make::upward(4_096), make::upward(4_096));
+    }
+}
+
+#[test]
+fn allocating_by_code() {
+    let mut random = Random::new(0x57AC_0001);
+    let mut accounts = make::upward(4_096);
+    accounts.reverse();
+    allocate(b'W', make::upward(4_096), accounts.clone());
+    for _ in 0..4 {
+        make::shuffle(&mut random, &mut accounts);
+        allocate(b'W', make::rising(&mut random, 4_096), accounts.clone());
+    }
+    allocate(b'W', make::upward(4_096), make::sharing_low_bits(&mut random, 4_096, 20));
+    allocate(b'W', make::upward(4_096), make::sharing_upper_bits_of_product(&mut random, 4_096));
+}
+
+fn respond(text: Vec<u8>) {
+    let printed = reference::printed(&text);
+    assert!(printed.starts_with(b"account,assigned"));
     let mut output = vec![0; 32_768];
     on_a_small_stack(move || {
         let mut written = 0;
         assert_eq!(calls::respond(&text, &mut output, &mut written), 0);
-        assert_eq!(&output[..written], &reference::printed(&text)[..]);
+        assert_eq!(&output[..written], &printed[..]);
+    });
+}
+
+#[test]
+fn responding() {
+    let list = Series::by_account(make::upward(1_024), vec![977; 1_024]);
+    respond(reference::write(b'P', 700_000, 5, list.list(), usize::MAX).expect("a text"));
+    respond(make::text_of_length(32_768));
+}
+
+#[test]
+fn reading_and_writing() {
+    let text = make::text_of_length(32_768);
+    on_a_small_stack(move || {
+        let [mut codes, mut accounts, mut shorts] = [(); 3].map(|_| vec![0; 1_024]);
+        let terms = dilbreth::read(&text, &mut codes, &mut accounts, &mut shorts).expect("a series");
+        let mut out = vec![0; 32_768];
+        let length = dilbreth::write(terms.method, 500_000, 77, &codes, &accounts, &shorts, &mut out);
+        assert_eq!((terms.positions, length.is_ok()), (1_024, true));
     });
 }

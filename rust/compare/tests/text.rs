@@ -1,7 +1,8 @@
 // Texts, two of three damaged, through reading, writing and responding.
 
+use compare::make::{self, Series};
 use compare::random::Random;
-use compare::{make, Count};
+use compare::{Count, List};
 use dilbreth::Refused;
 
 // Rooms around what is needed.
@@ -11,13 +12,15 @@ fn rooms(random: &mut Random, needed: usize) -> [usize; 3] {
 
 fn through(random: &mut Random, text: &[u8], reading: &mut Count, writing: &mut Count, responding: &mut Count) {
     let series = reference::read_text(text);
-    let positions = series.as_ref().map_or(3, |s| s.accounts.len());
-    let rooms_a = rooms(random, positions);
-    let rooms_s = rooms(random, positions);
-    reading.case(compare::read(text, rooms_a[0], rooms_s[0]));
-    reading.case(compare::read(text, rooms_a[1], rooms_s[1]));
-    reading.case(compare::read(text, rooms_a[2], rooms_s[1]));
-    reading.case(compare::read(text, rooms_a[1], rooms_s[2]));
+    let positions = series.as_ref().map_or(3, |s| s.shorts.len());
+    reading.case(compare::read(text, [positions; 3]));
+    let [_, enough, fewer] = rooms(random, positions);
+    reading.case(compare::read(text, [enough, positions, enough]));
+    for list in 0..3 {
+        let mut rooms = [enough; 3];
+        rooms[list] = fewer;
+        reading.case(compare::read(text, rooms));
+    }
     let printed = reference::printed(text);
     for room in rooms(random, printed.len()) {
         responding.case(compare::respond(text, room));
@@ -26,29 +29,33 @@ fn through(random: &mut Random, text: &[u8], reading: &mut Count, writing: &mut 
         if !printed.starts_with(b"refused") {
             responding.allocated(s.method, &s.shorts, s.exercised, s.draw);
         }
-        let written = reference::write(s.method, s.exercised, s.draw, &s.accounts, &s.shorts, usize::MAX).unwrap();
+        let written = reference::write(s.method, s.exercised, s.draw, s.list(), usize::MAX).unwrap();
         for room in rooms(random, written.len()) {
-            writing.case(compare::write(s.method, s.exercised, s.draw, &s.accounts, &s.shorts, room));
+            writing.case(compare::write(s.method, s.exercised, s.draw, s.list(), room));
         }
-        written_without_zeros(text, &written);
+        written_shorter(text, &written);
         assert_eq!(reference::read_text(&written), Ok(s));
         if written != text {
-            reading.case(compare::read(&written, positions, positions));
+            reading.case(compare::read(&written, [positions; 3]));
             assert_eq!(reference::printed(&written), printed);
             responding.case(compare::respond(&written, printed.len()));
         }
     }
 }
 
-// What is written for a text that reads is the text itself, or shorter where that has leading zeros.
-fn written_without_zeros(text: &[u8], written: &[u8]) {
+// What is written for a text that reads is the text itself, or shorter where that has leading zeros, or a column of
+// codes that are the accounts.
+fn written_shorter(text: &[u8], written: &[u8]) {
     let shown = String::from_utf8_lossy(text);
+    let left_out = make::has_codes(text) && !make::has_codes(written);
     assert!(!make::leading_zeros(written).contains(&true), "{shown}");
-    if make::leading_zeros(text).contains(&true) {
+    if make::leading_zeros(text).contains(&true) || left_out {
         assert!(written.len() < text.len(), "{shown}");
     } else {
         assert_eq!(written, text, "{shown}");
     }
+    let series = reference::read_text(text).expect("a series");
+    assert_eq!(make::has_codes(written), series.codes != series.accounts, "{shown}");
 }
 
 // Counts the spellings of whole texts.
@@ -57,6 +64,8 @@ struct Spellings {
     zeros: [u32; make::FIELDS],
     none: u32,
     all_in_ten: u32,
+    // Without a column of codes, with one that is left out in writing, and with one that is written.
+    forms: [u32; 3],
 }
 
 impl Spellings {
@@ -67,14 +76,22 @@ impl Spellings {
         }
         self.none += u32::from(!zeros.contains(&true));
         self.all_in_ten += u32::from(make::numbers(text).iter().all(|(from, to)| to - from == 10));
+        let series = reference::read_text(text).expect("a series");
+        let form = u32::from(make::has_codes(text)) + u32::from(series.codes != series.accounts);
+        self.forms[form as usize] += 1;
     }
 
     fn print(&self) {
-        let [exercised, draw, accounts, shorts] = self.zeros;
+        let [exercised, draw, accounts, shorts, coded @ ..] = self.zeros;
         println!(
             "whole texts with leading zeros: in S {exercised}, draw {draw}, accounts {accounts}, shorts {shorts}; \
              every number in ten digits {}; no leading zero {}",
             self.all_in_ten, self.none
+        );
+        println!("whole texts with codes and leading zeros: in S, draw, codes, accounts, shorts {coded:?}");
+        let [without, left_out, written] = self.forms;
+        println!(
+            "whole texts: {without} without codes, {left_out} with codes that are the accounts, {written} with others"
         );
     }
 }
@@ -115,7 +132,8 @@ fn random_texts() {
     );
     assert!(met[11..].iter().all(|&n| n > 50));
     spellings.print();
-    assert!(spellings.zeros.into_iter().chain([spellings.none, spellings.all_in_ten]).all(|n| n > 1_000));
+    let Spellings { zeros, none, all_in_ten, forms } = spellings;
+    assert!(zeros.into_iter().chain([none, all_in_ten]).chain(forms).all(|n| n > 1_000));
     reading.print();
     writing.print();
     responding.print();
@@ -123,43 +141,78 @@ fn random_texts() {
 }
 
 const M: &[u8] = b"method,exercised,draw\nL,13,4855\naccount,short\n1,5\n2,8\n3,2\n4,10\n5,11\n";
+const CODED: &[u8] = b"method,exercised,draw\nW,13,4\ncode,account,short\n3,21,6\n7,4,20\n12,11,9\n";
 
 #[test]
 fn cut_at_every_place() {
     let mut count = Count::new("texts cut");
-    for end in 0..=M.len() {
-        for start in [0, 1, 22] {
-            let part = &M[start.min(end)..end];
-            count.case(compare::read(part, 5, 5));
-            count.case(compare::read(part, 1, 0));
-            count.case(compare::respond(part, 100));
+    for text in [M, CODED] {
+        for end in 0..=text.len() {
+            for start in [0, 1, 22] {
+                let part = &text[start.min(end)..end];
+                count.case(compare::read(part, [5; 3]));
+                count.case(compare::read(part, [1, 1, 0]));
+                count.case(compare::respond(part, 100));
+            }
         }
     }
     count.print();
 }
 
+fn every_byte_at(count: &mut Count, text: &[u8], at: usize) {
+    let mut run = |text: &[u8]| {
+        count.case(compare::read(text, [6; 3]));
+        count.case(compare::respond(text, 100));
+    };
+    for byte in 0..=255 {
+        run(&[&text[..at], &[byte], &text[at..]].concat());
+        if at < text.len() {
+            run(&[&text[..at], &[byte], &text[at + 1..]].concat());
+        }
+    }
+    if at < text.len() {
+        run(&[&text[..at], &text[at + 1..]].concat());
+    }
+}
+
 #[test]
 fn every_byte_at_every_place() {
     let mut count = Count::new("texts with one byte changed, put in or removed");
-    for at in 0..=M.len() {
-        for byte in 0..=255 {
-            let put_in = [&M[..at], &[byte], &M[at..]].concat();
-            count.case(compare::read(&put_in, 6, 6));
-            count.case(compare::respond(&put_in, 100));
-            if at < M.len() {
-                let mut changed = M.to_vec();
-                changed[at] = byte;
-                count.case(compare::read(&changed, 6, 6));
-                count.case(compare::respond(&changed, 100));
-            }
-        }
-        if at < M.len() {
-            let removed = [&M[..at], &M[at + 1..]].concat();
-            count.case(compare::read(&removed, 6, 6));
-            count.case(compare::respond(&removed, 100));
+    for text in [M, CODED] {
+        for at in 0..=text.len() {
+            every_byte_at(&mut count, text, at);
         }
     }
     count.print();
+}
+
+// Line 3 in the two forms, and lines that are nearly one of them, over position lines with two, three and four numbers.
+#[test]
+fn names_lines_and_columns() {
+    let mut count = Count::new("names lines and columns");
+    let columns = ["code", "account", "short", "codes", "Code", "", " ", "code "];
+    let mut names = vec!["code,account,short\r\n".to_string(), "code,account,short".to_string()];
+    for a in columns {
+        names.push(format!("{a}\n"));
+        for b in columns {
+            names.push(format!("{a},{b}\n"));
+            for c in columns {
+                names.push(format!("{a},{b},{c}\n"));
+                names.push(format!("code,{a},{b},{c}\n"));
+            }
+        }
+    }
+    let mut exact = 0;
+    for line_3 in &names {
+        for lines in ["", "5\n", "1,5\n", "1,2,5\n", "1,2,3,5\n", "1,2,5\n3,4\n", "1,5\n3,4,5\n", "2,1,5\n3,2,5\n"] {
+            let text = format!("method,exercised,draw\nW,1,1\n{line_3}{lines}");
+            exact += u32::from(count.case(compare::read(text.as_bytes(), [4; 3])));
+            count.case(compare::respond(text.as_bytes(), 60));
+        }
+    }
+    count.print();
+    // Either form with no line; two numbers in one line; three in one, and in two.
+    assert_eq!(exact, 2 + 1 + 2);
 }
 
 // Numbers well and badly spelled, and what is none.
@@ -240,10 +293,15 @@ fn numbers_in_every_field() {
             ("L,1,", "\naccount,short\n1,7\n2,1\n"),
             ("W,1,5\naccount,short\n", ",7\n"),
             ("L,1,5\naccount,short\n1,7\n2,", "\n3,3\n"),
+            ("W,1,5\ncode,account,short\n", ",2,7\n"),
+            ("P,1,5\ncode,account,short\n9,2,7\n", ",3,7\n"),
+            ("W,1,5\ncode,account,short\n9,", ",7\n"),
+            ("W,1,5\ncode,account,short\n8,1,7\n9,", ",7\n10,2,7\n"),
+            ("W,1,5\ncode,account,short\n9,2,", "\n"),
         ] {
             let text = ["method,exercised,draw\n", before, number, after].concat();
-            count.case(compare::read(text.as_bytes(), 4, 4));
-            count.case(compare::read(text.as_bytes(), 0, 4));
+            count.case(compare::read(text.as_bytes(), [4; 3]));
+            count.case(compare::read(text.as_bytes(), [4, 0, 4]));
             count.case(compare::respond(text.as_bytes(), 200));
         }
     }
@@ -252,17 +310,22 @@ fn numbers_in_every_field() {
 
 // What the library reads for a number in a field of a text.
 fn read_in_field(field: usize, number: &str) -> Result<u32, Refused> {
-    let (mut accounts, mut shorts) = ([0], [0]);
-    let terms = dilbreth::read(&make::in_field(field, number), &mut accounts, &mut shorts)?;
-    Ok([terms.exercised, terms.draw, accounts[0], shorts[0]][field])
+    let ([mut codes, mut accounts, mut shorts], text) = ([[0]; 3], make::in_field(field, number));
+    let terms = dilbreth::read(&text, &mut codes, &mut accounts, &mut shorts)?;
+    if !make::has_codes(&text) {
+        assert_eq!(codes, accounts);
+    }
+    let (exercised, draw) = (terms.exercised, terms.draw);
+    let found = [exercised, draw, accounts[0], shorts[0], exercised, draw, codes[0], accounts[0], shorts[0]];
+    Ok(found[field])
 }
 
 fn in_every_field(count: &mut Count, number: &str, expected: Result<u32, Refused>) {
     for field in 0..make::FIELDS {
         assert_eq!(read_in_field(field, number), expected, "{number} in field {field}");
         let text = make::in_field(field, number);
-        count.case(compare::read(&text, 1, 1));
-        count.case(compare::read(&text, 1, 0));
+        count.case(compare::read(&text, [1; 3]));
+        count.case(compare::read(&text, [0, 1, 1]));
         count.case(compare::respond(&text, 60));
     }
 }
@@ -301,7 +364,7 @@ fn respond(text: &[u8]) -> String {
 
 #[test]
 fn zero_in_every_spelling() {
-    for (field, refusal) in [8, 10, 5, 6].into_iter().enumerate() {
+    for (field, refusal) in [8, 10, 5, 6, 8, 10, 5, 19, 6].into_iter().enumerate() {
         for digits in 1..=12 {
             let text = make::in_field(field, &"0".repeat(digits));
             let number = if digits <= 10 { refusal } else { 13 };
@@ -315,18 +378,21 @@ fn spelling_changes_no_answer() {
     let mut count = Count::new("texts spelled otherwise");
     let mut accounts = make::upward(10);
     accounts.extend([99, 100, 65_536, 10_000_000, 999_999_999, 1_000_000_000, u32::MAX]);
-    let shorts: Vec<u32> = (1..=accounts.len() as u32).collect();
-    for method in make::METHODS {
-        let text = reference::write(method, 60, 7, &accounts, &shorts, usize::MAX).unwrap();
+    let shorts = make::upward(accounts.len());
+    let codes: Vec<u32> = shorts.iter().map(|n| n * n * n).collect();
+    for (method, coded) in [(b'W', false), (b'P', false), (b'L', false), (b'W', true), (b'P', true)] {
+        let list = List { codes: if coded { &codes } else { &accounts }, accounts: &accounts, shorts: &shorts };
+        let text = reference::write(method, 60, 7, list, usize::MAX).unwrap();
         let printed = respond(&text);
         assert!(printed.starts_with("account,assigned\n1,"));
         for turn in 0..10 {
             let width = |i: usize, digits: usize| digits + (i / 2 + turn) % (11 - digits);
             let in_accounts =
-                make::spelled(&text, |i, digits| if make::field(i) == 2 { width(i, digits) } else { digits });
+                |i, digits| if make::is_account(make::field(coded, i)) { width(i, digits) } else { digits };
+            let in_accounts = make::spelled(&text, in_accounts);
             for other in [in_accounts, make::spelled(&text, width), make::spelled(&text, |_, _| turn + 1)] {
                 assert_eq!(respond(&other), printed, "{}", String::from_utf8_lossy(&other));
-                count.case(compare::read(&other, accounts.len(), accounts.len()));
+                count.case(compare::read(&other, [accounts.len(); 3]));
                 count.case(compare::respond(&other, printed.len()));
             }
         }
@@ -334,62 +400,101 @@ fn spelling_changes_no_answer() {
     count.print();
 }
 
-fn respond_to_pair(count: &mut Count, terms: &str, first: &str, second: &str) -> String {
-    let text = format!("method,exercised,draw\n{terms}\naccount,short\n{first},3\n{second},4\n");
+// Two positions, whose lines begin with what is given.
+fn respond_to_pair(count: &mut Count, terms: &str, names: &str, first: &str, second: &str) -> String {
+    let text = format!("method,exercised,draw\n{terms}\n{names}\n{first},3\n{second},4\n");
     let printed = respond(text.as_bytes());
-    count.case(compare::read(text.as_bytes(), 2, 2));
+    count.case(compare::read(text.as_bytes(), [2; 3]));
     count.case(compare::respond(text.as_bytes(), printed.len()));
     printed
+}
+
+// A number and one above it, each in every spelling; `run` is handed the two, and the first again in another.
+fn pairs(mut run: impl FnMut(u32, u32, &str, &str, &str)) {
+    for (number, above) in [(1, 2), (9, 10), (99_999, 100_000), (999_999_999, 1_000_000_000)] {
+        for width in 1..=10 {
+            for other in 1..=10 {
+                let one = format!("{number:0width$}");
+                let [same, next] = [number, above].map(|n| format!("{n:0other$}"));
+                run(number, above, &one, &same, &next);
+            }
+        }
+    }
 }
 
 #[test]
 fn two_spellings_are_one_account() {
     let mut count = Count::new("accounts in two spellings");
-    for (account, above) in [(1, 2), (9, 10), (99_999, 100_000), (999_999_999, 1_000_000_000)] {
-        for width in 1..=10 {
-            for other in 1..=10 {
-                let one = format!("{account:0width$}");
-                let [same, next] = [account, above].map(|n| format!("{n:0other$}"));
-                for terms in ["W,1,7", "P,1,0", "L,1,10000"] {
-                    let rising = format!("account,assigned\n{account},0\n{above},1\n");
-                    assert_eq!(respond_to_pair(&mut count, terms, &one, &next), rising, "{terms} {one} {next}");
-                    for (first, second) in [(&one, &same), (&next, &one)] {
-                        let found = respond_to_pair(&mut count, terms, first, second);
-                        assert_eq!(found, "refused\n5\n", "{terms} {first} {second}");
-                    }
-                }
+    let names = "account,short";
+    pairs(|account, above, one, same, next| {
+        for terms in ["W,1,7", "P,1,0", "L,1,10000"] {
+            let rising = format!("account,assigned\n{account},0\n{above},1\n");
+            assert_eq!(respond_to_pair(&mut count, terms, names, one, next), rising, "{terms} {one} {next}");
+            for (first, second) in [(one, same), (next, one)] {
+                let found = respond_to_pair(&mut count, terms, names, first, second);
+                assert_eq!(found, "refused\n5\n", "{terms} {first} {second}");
             }
         }
-    }
+    });
     count.print();
+}
+
+#[test]
+fn two_spellings_are_one_code() {
+    let mut count = Count::new("codes in two spellings");
+    pairs(|number, above, one, same, next| {
+        let mut wheel =
+            |first: &str, second: &str| respond_to_pair(&mut count, "W,1,7", "code,account,short", first, second);
+        // As codes over accounts that fall, and as accounts.
+        let code = |number: &str, account: u32| format!("{number},{account}");
+        assert_eq!(wheel(&code(one, 8), &code(next, 7)), "account,assigned\n8,0\n7,1\n", "{one} {next}");
+        assert_eq!(wheel(&code(one, 8), &code(same, 7)), "refused\n5\n", "{one} {same}");
+        assert_eq!(wheel(&code(next, 8), &code(one, 7)), "refused\n5\n", "{next} {one}");
+        let account = |code: u32, number: &str| format!("{code},{number}");
+        let falling = format!("account,assigned\n{above},0\n{number},1\n");
+        assert_eq!(wheel(&account(7, next), &account(8, one)), falling, "{next} {one}");
+        assert_eq!(wheel(&account(7, one), &account(8, same)), "refused\n19\n", "{one} {same}");
+    });
+    count.print();
+}
+
+// Up to and past 1,024 lines, and a fault in the last line that may stand or past it; `line` has the line of a number.
+fn lines_at_the_limit(count: &mut Count, head: &[u8], lines: usize, line: impl Fn(usize) -> String) {
+    let body: String = (1..=lines).map(&line).collect();
+    let last = line(9_999);
+    let ends =
+        ["", "\n", "x", "0", &last[..last.len() - 1], &last, &format!("000000{last}"), &format!("0000000{last}")];
+    for end in ends {
+        let text = [head, body.as_bytes(), end.as_bytes()].concat();
+        for room in [0, 1_023, 1_024, 1_025] {
+            for list in 0..3 {
+                let mut rooms = [1_025; 3];
+                rooms[list] = room;
+                count.case(compare::read(&text, rooms));
+            }
+        }
+        let needed = reference::printed(&text).len();
+        for room in [0, needed - 1, needed, needed + 3] {
+            count.case(compare::respond(&text, room));
+        }
+    }
+    let (good, bad) = (line(5), line(5).replace('\n', ",\n"));
+    for at in [lines.saturating_sub(1), lines / 2] {
+        let text = [head, good.repeat(at).as_bytes(), bad.as_bytes(), good.repeat(lines - at).as_bytes()].concat();
+        count.case(compare::read(&text, [1_025; 3]));
+        count.case(compare::respond(&text, 20));
+    }
 }
 
 #[test]
 fn lines_and_bytes_at_the_limit() {
     let mut count = Count::new("texts at the limits");
     let head = b"method,exercised,draw\nW,26,7\naccount,short\n";
-    for lines in [0usize, 1, 1_023, 1_024, 1_025, 1_026, 2_000] {
-        let mut body = Vec::new();
-        for account in 1..=lines {
-            body.extend(format!("{account},3\n").bytes());
-        }
-        for end in ["", "\n", "x", "0", "9999,3", "9999,3\n", "0000009999,3\n", "00000009999,3\n"] {
-            let text = [&head[..], &body, end.as_bytes()].concat();
-            for room in [0, 1_023, 1_024, 1_025] {
-                count.case(compare::read(&text, room, 1_025));
-                count.case(compare::read(&text, 1_025, room));
-            }
-            let needed = reference::printed(&text).len();
-            for room in [0, needed - 1, needed, needed + 3] {
-                count.case(compare::respond(&text, room));
-            }
-        }
-        // A fault in the last line that may stand, and one past it.
-        for at in [lines.saturating_sub(1), lines / 2] {
-            let text = [&head[..], &b"5,5\n".repeat(at), b"5,5,\n", &b"5,5\n".repeat(lines - at)].concat();
-            count.case(compare::read(&text, 1_025, 1_025));
-            count.case(compare::respond(&text, 20));
-        }
+    let coded = b"method,exercised,draw\nW,26,7\ncode,account,short\n";
+    for lines in [0, 1, 1_023, 1_024, 1_025, 1_026, 2_000] {
+        lines_at_the_limit(&mut count, head, lines, |account| format!("{account},3\n"));
+        lines_at_the_limit(&mut count, coded, lines, |code| format!("{code},{},3\n", 10_000 - code));
+        lines_at_the_limit(&mut count, coded, lines, |code| format!("{code},{code},3\n"));
     }
     for length in [32_766, 32_767, 32_768, 32_769, 32_770, 40_000, 65_536, 65_537, 100_000, 1_000_000] {
         for fill in [b'x', b'0', b'9', b'\n', b',', 0] {
@@ -398,13 +503,15 @@ fn lines_and_bytes_at_the_limit() {
                 b"method,exercised,draw\n",
                 b"method,exercised,draw\nW,1,",
                 head,
+                coded,
                 b"method,exercised,draw\nW,26,7\naccount,short\n1,3\n2,",
+                b"method,exercised,draw\nW,26,7\ncode,account,short\n1,2,3\n2,",
                 &M[..60],
             ] {
                 let mut text = start.to_vec();
                 text.resize(length, fill);
-                count.case(compare::read(&text, 1_024, 1_024));
-                count.case(compare::read(&text, 0, 0));
+                count.case(compare::read(&text, [1_024; 3]));
+                count.case(compare::read(&text, [0; 3]));
                 count.case(compare::respond(&text, 20));
                 count.case(compare::respond(&text, 9));
             }
@@ -413,34 +520,85 @@ fn lines_and_bytes_at_the_limit() {
     count.print();
 }
 
+// Whole series with codes whose text has, or would have, 32,768 bytes, or one or two more or less.
+#[test]
+fn exactly_32_768_bytes() {
+    let mut count = Count::new("texts of about 32,768 bytes");
+    for length in 32_766..=32_770 {
+        let fits = length <= 32_768;
+        let text = make::text_of_length(length);
+        assert_eq!((text.len(), make::has_codes(&text)), (length, true));
+        assert_eq!(count.case(compare::read(&text, [1_024; 3])), fits);
+        assert!(!count.case(compare::read(&text, [1_023, 1_024, 1_024])));
+        assert_eq!(respond(&text).starts_with("account,assigned\n"), fits);
+        count.case(compare::respond(&text, 32_768));
+        let series = make::list_of_length(length);
+        for method in make::METHODS {
+            for room in [0, 100, 32_766, 32_767, 32_768, 32_769, 32_770, 40_000] {
+                let written = count.case(compare::write(method, 1, 1, series.list(), room));
+                assert_eq!(written, fits && room >= length);
+            }
+        }
+        // S or draw with more digits, and the same without codes, which is far shorter.
+        for (exercised, draw) in [(10, 1), (1, 10), (u32::MAX, u32::MAX)] {
+            count.case(compare::write(b'W', exercised, draw, series.list(), 40_000));
+        }
+        let short = List { codes: &series.accounts, ..series.list() };
+        assert!(count.case(compare::write(b'W', 1, 1, short, 32_768)));
+    }
+    count.print();
+}
+
+// Three lists of the lengths; the codes are the accounts at times, or nearly.
+fn three_lists(random: &mut Random, lengths: [usize; 3]) -> Series {
+    let wide = random.one_in(4);
+    let mut number = || match random.below(5) {
+        _ if wide => u32::MAX - random.spread(3_400_000_000) as u32,
+        0 => 0,
+        1 => u32::MAX,
+        2 => 10u32.pow(random.between(0, 9) as u32) - random.below(2) as u32,
+        3 => random.spread(u64::from(u32::MAX)) as u32,
+        _ => random.bits() as u32,
+    };
+    let [mut codes, accounts, shorts] = lengths.map(|length| (0..length).map(|_| number()).collect::<Vec<u32>>());
+    if random.one_in(3) {
+        codes = accounts.clone();
+    }
+    if random.one_in(3) && !codes.is_empty() {
+        let at = random.index(codes.len());
+        codes[at] ^= 1;
+    }
+    Series { codes, accounts, shorts }
+}
+
 #[test]
 fn random_writing() {
     let mut random = Random::new(0x7E87_0002);
     let mut count = Count::new("random series written");
+    let mut met = [0; 16];
     for _ in 0..8_000 {
-        let mut lengths = [make::lines(&mut random); 2];
+        let mut lengths = [make::lines(&mut random); 3];
         match random.below(20) {
-            0 => lengths[1] = lengths[1].saturating_sub(1),
-            1 => lengths[0] += 1,
-            2 => lengths = [random.pick(&[1_024, 1_025, 1_026, 4_096, 5_000]); 2],
+            0..=2 => {
+                let list = random.index(3);
+                lengths[list] = lengths[list].saturating_sub(1);
+            }
+            3 => lengths[random.index(3)] += 1,
+            4 => lengths = [random.pick(&[1_024, 1_025, 1_026, 4_096, 5_000]); 3],
             _ => {}
         }
-        let mut number = || match random.below(5) {
-            0 => 0,
-            1 => u32::MAX,
-            2 => 10u32.pow(random.between(0, 9) as u32) - random.below(2) as u32,
-            3 => random.spread(u64::from(u32::MAX)) as u32,
-            _ => random.bits() as u32,
-        };
-        let accounts: Vec<u32> = (0..lengths[0]).map(|_| number()).collect();
-        let shorts: Vec<u32> = (0..lengths[1]).map(|_| number()).collect();
-        let (exercised, draw) = (number(), number());
+        let series = three_lists(&mut random, lengths);
+        let (exercised, draw) = (random.bits() as u32, random.spread(u64::from(u32::MAX)) as u32);
         let method = random.pick(b"WPLWPLWPLwX");
-        let needed = reference::write(method, exercised, draw, &accounts, &shorts, usize::MAX).map_or(60, |t| t.len());
+        let answer = reference::write(method, exercised, draw, series.list(), usize::MAX);
+        met[answer.as_ref().err().map_or(0, |&number| number as usize)] += 1;
+        let needed = answer.map_or(60, |text| text.len());
         for room in rooms(&mut random, needed) {
-            count.case(compare::write(method, exercised, draw, &accounts, &shorts, room));
+            count.case(compare::write(method, exercised, draw, series.list(), room));
         }
-        count.case(compare::write(method, exercised, draw, &accounts, &shorts, random.index(60)));
+        count.case(compare::write(method, exercised, draw, series.list(), random.index(60)));
     }
     count.print();
+    println!("random series written: refused by 1 {}, by 11 {}, by 14 {}, by 15 {}", met[1], met[11], met[14], met[15]);
+    assert!([1, 11, 14, 15].iter().all(|&number| met[number] > 5));
 }

@@ -6,14 +6,20 @@ use compare::random::Random;
 use compare::{cases, Count};
 use reference::Allocation;
 
-// Each method with S around 0 and T, and draws in and out of range.
-fn terms(list: &Series) -> Vec<(u8, u32, u32)> {
+// S around 0 and T, and draws in and out of range.
+fn terms(list: &Series) -> Vec<(u32, u32)> {
     let total = list.total() as u32;
+    [0, 1, total - 1, total, total + 1]
+        .into_iter()
+        .flat_map(|exercised| make::draws(total).map(|draw| (exercised, draw)))
+        .collect()
+}
+
+// Each list under each method, with codes that it takes.
+fn of_each_method(random: &mut Random, lists: &[Series]) -> Vec<(u8, Series)> {
     let mut all = Vec::new();
-    for method in make::METHODS {
-        for exercised in [0, 1, total - 1, total, total + 1] {
-            all.extend(make::draws(total).map(|draw| (method, exercised, draw)));
-        }
+    for list in lists {
+        all.extend(make::METHODS.map(|method| (method, make::coded(random, method, list))));
     }
     all
 }
@@ -38,21 +44,23 @@ fn allocating() {
     for (positions, total) in ones.into_iter().chain(others) {
         lists.push(make::series(&mut random, positions, total, true));
     }
-    for list in lists {
-        for (method, exercised, draw) in terms(&list) {
-            count.allocate(method, &list.accounts, &list.shorts, exercised, draw, list.shorts.len() + 1);
+    for (method, list) in of_each_method(&mut random, &lists) {
+        for (exercised, draw) in terms(&list) {
+            count.allocate(method, list.list(), exercised, draw, list.shorts.len() + 1);
         }
     }
     count.print();
     assert!(!count.undrawn().contains(&0));
 }
 
-// The texts of the lists' series; `run` answers whether one was allocated.
-fn texts(what: &'static str, lists: &[Series], run: impl Fn(&[u8]) -> Result<bool, String>) {
+// The texts of series of so many lists; `run` answers whether one was allocated.
+fn texts(what: &'static str, seed: u64, lists: usize, run: impl Fn(&[u8]) -> Result<bool, String>) {
+    let mut random = Random::new(seed);
     let mut count = Count::new(what);
-    for list in lists {
-        for (method, exercised, draw) in terms(list) {
-            let text = reference::write(method, exercised, draw, &list.accounts, &list.shorts, usize::MAX);
+    let lists = random_lists(&mut random, lists);
+    for (method, list) in of_each_method(&mut random, &lists) {
+        for (exercised, draw) in terms(&list) {
+            let text = reference::write(method, exercised, draw, list.list(), usize::MAX);
             if count.case(run(&text.expect("a text"))) {
                 count.allocated(method, &list.shorts, exercised, draw);
             }
@@ -64,8 +72,7 @@ fn texts(what: &'static str, lists: &[Series], run: impl Fn(&[u8]) -> Result<boo
 
 #[test]
 fn responding() {
-    let lists = random_lists(&mut Random::new(0xD4A3_0002), 100);
-    texts("no draw needed, responding", &lists, |text| {
+    texts("no draw needed, responding", 0xD4A3_0002, 100, |text| {
         let printed = reference::printed(text);
         compare::respond(text, printed.len() - 1)?;
         compare::respond(text, printed.len())?;
@@ -75,13 +82,12 @@ fn responding() {
 
 #[test]
 fn running_the_program() {
-    let lists = random_lists(&mut Random::new(0xD4A3_0003), 6);
-    texts("no draw needed, program", &lists, |text| program::compare(text, Feed::Pipe));
+    texts("no draw needed, program", 0xD4A3_0003, 6, |text| program::compare(text, Feed::Pipe));
 }
 
 // The answer as it was before: the draw is judged before anything is decided.
 fn before(method: u8, list: &Series, exercised: u32, draw: u32, room: usize) -> Result<Allocation, u32> {
-    let total = reference::judge(method, &list.accounts, &list.shorts, exercised, room)?;
+    let total = reference::judge(method, list.list(), exercised, room)?;
     reference::judge_draw(method, total, draw)?;
     let (amounts, further) = if method == b'W' && exercised == total {
         (list.shorts.clone(), 0)
@@ -95,7 +101,7 @@ fn before(method: u8, list: &Series, exercised: u32, draw: u32, room: usize) -> 
 // place that is 0 now, 3 for a draw that is no longer refused.
 fn hold(method: u8, list: &Series, exercised: u32, draw: u32, room: usize) -> usize {
     let before = before(method, list, exercised, draw, room);
-    let after = reference::allocate(method, &list.accounts, &list.shorts, exercised, draw, room);
+    let after = reference::allocate(method, list.list(), exercised, draw, room);
     let whole = u64::from(exercised) == list.total();
     let one = method == b'L' && list.shorts.len() == 1;
     let expected = match before.clone() {
@@ -104,7 +110,7 @@ fn hold(method: u8, list: &Series, exercised: u32, draw: u32, room: usize) -> us
         Err(10) if one => Ok(Allocation { amounts: vec![exercised], total: list.shorts[0], further: 0 }),
         other => other,
     };
-    assert_eq!(after, expected, "{}", cases::allocate(method, &list.accounts, &list.shorts, exercised, draw, room));
+    assert_eq!(after, expected, "{}", cases::allocate(method, list.list(), exercised, draw, room));
     usize::from(before.is_err()) + 2 * usize::from(before != after)
 }
 

@@ -33,7 +33,7 @@ fn header_constant(name: &str) -> u32 {
 
 #[test]
 fn tables_show_the_words() {
-    let words: Vec<(u32, String)> = (1..=18).map(|number| (number, dilbreth::explain(number))).collect();
+    let words: Vec<(u32, String)> = (1..=19).map(|number| (number, dilbreth::explain(number))).collect();
     assert_eq!(readme_table(), words);
     assert_eq!(header_table(), words);
 }

@@ -29,38 +29,65 @@ fn series_with_known_amounts() {
     for (method, shorts, exercised, draw, expected, further) in KNOWN {
         let accounts: Vec<u32> = (1..=shorts.len() as u32).collect();
         let mut amounts = vec![9; shorts.len() + 1];
-        let answer = dilbreth::allocate(method, &accounts, shorts, exercised, draw, &mut amounts);
+        let answer = dilbreth::allocate(method, &accounts, &accounts, shorts, exercised, draw, &mut amounts);
         assert_eq!(answer, Ok(Allocated { total: shorts.iter().sum(), further }));
         assert_eq!(amounts[..shorts.len()], *expected);
         assert_eq!(amounts[shorts.len()], 9);
+        // W by codes with the accounts falling, the others without a code.
+        let (codes, accounts) = match method {
+            Method::Wheel => (accounts.clone(), accounts.iter().rev().map(|account| account * 10).collect()),
+            _ => (vec![], accounts),
+        };
+        amounts.fill(9);
+        assert_eq!(dilbreth::allocate(method, &codes, &accounts, shorts, exercised, draw, &mut amounts), answer);
+        assert_eq!(amounts[..shorts.len()], *expected);
     }
 }
 
 #[test]
 fn case_m_in_full() {
     let text = b"method,exercised,draw\nL,13,4855\naccount,short\n1,5\n2,8\n3,2\n4,10\n5,11\n";
-    let (mut accounts, mut shorts) = ([0; 6], [0; 6]);
-    let terms = dilbreth::read(text, &mut accounts, &mut shorts).unwrap();
+    let (mut codes, mut accounts, mut shorts) = ([0; 6], [0; 6], [0; 6]);
+    let terms = dilbreth::read(text, &mut codes, &mut accounts, &mut shorts).unwrap();
     assert_eq!(terms, Terms { method: Method::Lottery, exercised: 13, draw: 4855, positions: 5 });
-    assert_eq!((accounts, shorts), ([1, 2, 3, 4, 5, 0], [5, 8, 2, 10, 11, 0]));
+    assert_eq!((codes, accounts, shorts), ([1, 2, 3, 4, 5, 0], [1, 2, 3, 4, 5, 0], [5, 8, 2, 10, 11, 0]));
     let mut bytes = [0; 100];
-    let length = dilbreth::write(terms.method, 13, 4855, &accounts[..5], &shorts[..5], &mut bytes).unwrap();
+    let length =
+        dilbreth::write(terms.method, 13, 4855, &codes[..5], &accounts[..5], &shorts[..5], &mut bytes).unwrap();
     assert_eq!(bytes[..length], text[..]);
     let length = dilbreth::respond(text, &mut bytes).unwrap();
     assert_eq!(&bytes[..length], b"account,assigned\n1,0\n2,0\n3,0\n4,8\n5,5\n");
 }
 
+// No two numbers are equal, so each must reach its place.
+#[test]
+fn codes() {
+    let text = b"method,exercised,draw\nW,175,340\ncode,account,short\n3,21,60\n7,4,200\n9,11,95\n";
+    let (mut codes, mut accounts, mut shorts) = ([0; 3], [0; 3], [0; 3]);
+    let terms = dilbreth::read(text, &mut codes, &mut accounts, &mut shorts).unwrap();
+    assert_eq!(terms, Terms { method: Method::Wheel, exercised: 175, draw: 340, positions: 3 });
+    assert_eq!((codes, accounts, shorts), ([3, 7, 9], [21, 4, 11], [60, 200, 95]));
+    assert_eq!(dilbreth::read(text, &mut [0; 2], &mut accounts, &mut shorts), Err(Refused(4)));
+    let mut bytes = [0; 100];
+    let length = dilbreth::write(terms.method, 175, 340, &codes, &accounts, &shorts, &mut bytes).unwrap();
+    assert_eq!(bytes[..length], text[..]);
+    let length = dilbreth::write(terms.method, 175, 340, &codes, &codes, &shorts, &mut bytes).unwrap();
+    assert_eq!(&bytes[..length], b"method,exercised,draw\nW,175,340\naccount,short\n3,60\n7,200\n9,95\n");
+    let length = dilbreth::respond(text, &mut bytes).unwrap();
+    assert_eq!(&bytes[..length], b"account,assigned\n21,34\n4,98\n11,43\n");
+}
+
 #[test]
 fn leading_zeros() {
     let text = b"method,exercised,draw\nL,0000000013,04855\naccount,short\n0001,0036\n4294967295,00000000000\n";
-    let (mut accounts, mut shorts) = ([0; 2], [0; 2]);
-    assert_eq!(dilbreth::read(text, &mut accounts, &mut shorts), Err(Refused(13)));
+    let (mut codes, mut accounts, mut shorts) = ([0; 2], [0; 2], [0; 2]);
+    assert_eq!(dilbreth::read(text, &mut codes, &mut accounts, &mut shorts), Err(Refused(13)));
     let text = b"method,exercised,draw\nL,0000000013,04855\naccount,short\n0001,0036\n4294967295,0000000000\n";
-    let terms = dilbreth::read(text, &mut accounts, &mut shorts).unwrap();
+    let terms = dilbreth::read(text, &mut codes, &mut accounts, &mut shorts).unwrap();
     assert_eq!(terms, Terms { method: Method::Lottery, exercised: 13, draw: 4855, positions: 2 });
-    assert_eq!((accounts, shorts), ([1, u32::MAX], [36, 0]));
+    assert_eq!((codes, accounts, shorts), ([1, u32::MAX], [1, u32::MAX], [36, 0]));
     let mut bytes = [0; 100];
-    let length = dilbreth::write(terms.method, 13, 4855, &accounts, &shorts, &mut bytes).unwrap();
+    let length = dilbreth::write(terms.method, 13, 4855, &codes, &accounts, &shorts, &mut bytes).unwrap();
     assert_eq!(&bytes[..length], b"method,exercised,draw\nL,13,4855\naccount,short\n1,36\n4294967295,0\n");
     let text = b"method,exercised,draw\nL,0000000013,04855\naccount,short\n0001,0036\n";
     let length = dilbreth::respond(text, &mut bytes).unwrap();
@@ -120,10 +147,15 @@ fn every_count_of_a_day() {
 
 #[test]
 fn refusals_are_errors() {
-    assert_eq!(dilbreth::allocate(Method::Wheel, &[1], &[36], 37, 1, &mut [0]), Err(Refused(9)));
-    assert_eq!(dilbreth::allocate(Method::Wheel, &[1], &[36], 13, 0, &mut [0]), Err(Refused(10)));
-    assert_eq!(dilbreth::read(b"", &mut [], &mut []), Err(Refused(12)));
-    assert_eq!(dilbreth::write(Method::Wheel, 1, 1, &[1], &[], &mut []), Err(Refused(1)));
+    assert_eq!(dilbreth::allocate(Method::Wheel, &[1], &[1], &[36], 37, 1, &mut [0]), Err(Refused(9)));
+    assert_eq!(dilbreth::allocate(Method::Wheel, &[1], &[1], &[36], 13, 0, &mut [0]), Err(Refused(10)));
+    assert_eq!(dilbreth::allocate(Method::Wheel, &[], &[1], &[36], 13, 1, &mut [0]), Err(Refused(1)));
+    assert_eq!(dilbreth::allocate(Method::Wheel, &[0], &[0], &[36], 13, 1, &mut [0]), Err(Refused(5)));
+    assert_eq!(dilbreth::allocate(Method::Wheel, &[1], &[0], &[36], 13, 1, &mut [0]), Err(Refused(19)));
+    assert_eq!(dilbreth::allocate(Method::ProRata, &[1], &[0], &[36], 13, 1, &mut [0]), Err(Refused(5)));
+    assert_eq!(dilbreth::read(b"", &mut [], &mut [], &mut []), Err(Refused(12)));
+    assert_eq!(dilbreth::write(Method::Wheel, 1, 1, &[1], &[1], &[], &mut []), Err(Refused(1)));
+    assert_eq!(dilbreth::write(Method::Wheel, 1, 1, &[], &[1], &[1], &mut []), Err(Refused(1)));
     assert_eq!(dilbreth::respond(b"", &mut []), Err(Refused(4)));
     assert_eq!(Refused(3).to_string(), "refused, 3: there are no positions");
 }

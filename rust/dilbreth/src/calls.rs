@@ -9,6 +9,7 @@ use crate::ffi;
 #[allow(clippy::too_many_arguments)]
 pub fn allocate(
     method: u8,
+    codes: &[u32],
     accounts: &[u32],
     shorts: &[u32],
     exercised: u32,
@@ -20,6 +21,8 @@ pub fn allocate(
     unsafe {
         ffi::dilbreth_allocate(
             method,
+            codes.as_ptr(),
+            codes.len(),
             accounts.as_ptr(),
             accounts.len(),
             shorts.as_ptr(),
@@ -34,8 +37,10 @@ pub fn allocate(
     }
 }
 
+#[allow(clippy::too_many_arguments)]
 pub fn read(
     text: &[u8],
+    codes: &mut [u32],
     accounts: &mut [u32],
     shorts: &mut [u32],
     method: &mut u8,
@@ -47,6 +52,8 @@ pub fn read(
         ffi::dilbreth_read(
             text.as_ptr(),
             text.len(),
+            codes.as_mut_ptr(),
+            codes.len(),
             accounts.as_mut_ptr(),
             accounts.len(),
             shorts.as_mut_ptr(),
@@ -59,10 +66,12 @@ pub fn read(
     }
 }
 
+#[allow(clippy::too_many_arguments)]
 pub fn write(
     method: u8,
     exercised: u32,
     draw: u32,
+    codes: &[u32],
     accounts: &[u32],
     shorts: &[u32],
     text: &mut [u8],
@@ -73,6 +82,8 @@ pub fn write(
             method,
             exercised,
             draw,
+            codes.as_ptr(),
+            codes.len(),
             accounts.as_ptr(),
             accounts.len(),
             shorts.as_ptr(),

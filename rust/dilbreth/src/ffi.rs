@@ -3,6 +3,8 @@
 extern "C" {
     pub fn dilbreth_allocate(
         method: u8,
+        codes: *const u32,
+        codes_len: usize,
         accounts: *const u32,
         accounts_len: usize,
         shorts: *const u32,
@@ -18,6 +20,8 @@ extern "C" {
     pub fn dilbreth_read(
         text: *const u8,
         text_len: usize,
+        codes: *mut u32,
+        codes_len: usize,
         accounts: *mut u32,
         accounts_len: usize,
         shorts: *mut u32,
@@ -32,6 +36,8 @@ extern "C" {
         method: u8,
         exercised: u32,
         draw: u32,
+        codes: *const u32,
+        codes_len: usize,
         accounts: *const u32,
         accounts_len: usize,
         shorts: *const u32,

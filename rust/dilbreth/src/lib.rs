@@ -6,7 +6,7 @@ mod ffi;
 use std::fmt;
 
 /// DILBRETH_VERSION of the header.
-pub const VERSION: u32 = 3;
+pub const VERSION: u32 = 4;
 
 #[derive(Clone, Copy, Debug, PartialEq, Eq)]
 pub enum Method {
@@ -121,10 +121,13 @@ pub struct AfterDay {
     pub short: u32,
 }
 
-/// Assigns the exercised contracts; `amounts` receives those of each position in list order. The draw is not judged
-/// where S equals T, nor for one position of the lottery.
+/// Assigns the exercised contracts; `amounts` receives those of each position in list order. Under the wheel the codes
+/// rise and the accounts differ, in any order; the other methods have the accounts rise and look at no code, so `&[]`
+/// will do. The draw is not judged where S equals T under the wheel or the lottery, nor for one position of the
+/// lottery.
 pub fn allocate(
     method: Method,
+    codes: &[u32],
     accounts: &[u32],
     shorts: &[u32],
     exercised: u32,
@@ -132,29 +135,31 @@ pub fn allocate(
     amounts: &mut [u32],
 ) -> Result<Allocated, Refused> {
     let (mut total, mut further) = (0, 0);
-    accepted(calls::allocate(method.byte(), accounts, shorts, exercised, draw, amounts, &mut total, &mut further))?;
+    let method = method.byte();
+    accepted(calls::allocate(method, codes, accounts, shorts, exercised, draw, amounts, &mut total, &mut further))?;
     Ok(Allocated { total, further })
 }
 
-/// Reads the text of a series into the two lists.
-pub fn read(text: &[u8], accounts: &mut [u32], shorts: &mut [u32]) -> Result<Terms, Refused> {
+/// Reads the text of a series into the three lists. Where the text has no column of codes, each is the account number.
+pub fn read(text: &[u8], codes: &mut [u32], accounts: &mut [u32], shorts: &mut [u32]) -> Result<Terms, Refused> {
     let (mut method, mut exercised, mut draw, mut positions) = (0, 0, 0, 0);
-    accepted(calls::read(text, accounts, shorts, &mut method, &mut exercised, &mut draw, &mut positions))?;
+    accepted(calls::read(text, codes, accounts, shorts, &mut method, &mut exercised, &mut draw, &mut positions))?;
     let method = Method::from_byte(method).ok_or(Refused(14))?;
     Ok(Terms { method, exercised, draw, positions })
 }
 
-/// Writes the text of a series; answers its length.
+/// Writes the text of a series; answers its length. The column of codes is left out where each is the account number.
 pub fn write(
     method: Method,
     exercised: u32,
     draw: u32,
+    codes: &[u32],
     accounts: &[u32],
     shorts: &[u32],
     text: &mut [u8],
 ) -> Result<usize, Refused> {
     let mut written = 0;
-    accepted(calls::write(method.byte(), exercised, draw, accounts, shorts, text, &mut written))?;
+    accepted(calls::write(method.byte(), exercised, draw, codes, accounts, shorts, text, &mut written))?;
     Ok(written)
 }
 

@@ -4,6 +4,7 @@
 pub mod day;
 
 use std::cmp::Reverse;
+use std::collections::HashSet;
 
 pub const MOST_POSITIONS: usize = 4_096;
 pub const MOST_LINES: usize = 1_024;
@@ -14,6 +15,22 @@ pub const INCREMENT: u64 = 25;
 
 const NAMES_1: &[u8] = b"method,exercised,draw\n";
 const NAMES_3: &[u8] = b"account,short\n";
+const NAMES_3_WITH_CODE: &[u8] = b"code,account,short\n";
+
+/// The positions of a call in list order: their codes, accounts and shorts.
+#[derive(Clone, Copy, Debug)]
+pub struct List<'a> {
+    pub codes: &'a [u32],
+    pub accounts: &'a [u32],
+    pub shorts: &'a [u32],
+}
+
+impl<'a> List<'a> {
+    /// Each code is the account number.
+    pub fn by_account(accounts: &'a [u32], shorts: &'a [u32]) -> List<'a> {
+        List { codes: accounts, accounts, shorts }
+    }
+}
 
 #[derive(Clone, Debug, PartialEq, Eq)]
 pub struct Allocation {
@@ -27,46 +44,57 @@ pub struct Series {
     pub method: u8,
     pub exercised: u32,
     pub draw: u32,
+    pub codes: Vec<u32>,
     pub accounts: Vec<u32>,
     pub shorts: Vec<u32>,
+}
+
+impl Series {
+    pub fn list(&self) -> List<'_> {
+        List { codes: &self.codes, accounts: &self.accounts, shorts: &self.shorts }
+    }
 }
 
 fn known(method: u8) -> bool {
     [b'W', b'P', b'L'].contains(&method)
 }
 
+fn first(refusals: &[(u32, bool)]) -> Result<(), u32> {
+    match refusals.iter().find(|(_, applies)| *applies) {
+        Some((number, _)) => Err(*number),
+        None => Ok(()),
+    }
+}
+
+/// Whether the number at the index is above the one before it, or above 0 at the first.
+fn rises(numbers: &[u32], at: usize) -> bool {
+    let before = if at == 0 { 0 } else { numbers[at - 1] };
+    numbers[at] > before
+}
+
 /// The first refusal of the allocating call that applies, the draw left aside, or T.
-pub fn judge(method: u8, accounts: &[u32], shorts: &[u32], exercised: u32, room: usize) -> Result<u32, u32> {
-    if !known(method) {
-        return Err(14);
-    }
-    let lengths = [
-        (1, accounts.len() != shorts.len()),
-        (2, accounts.len() > MOST_POSITIONS),
-        (3, accounts.is_empty()),
-        (4, room < accounts.len()),
-    ];
-    for (number, applies) in lengths {
-        if applies {
-            return Err(number);
-        }
-    }
-    let mut before = 0;
+pub fn judge(method: u8, list: List, exercised: u32, room: usize) -> Result<u32, u32> {
+    let List { codes, accounts, shorts } = list;
+    let by_code = method == b'W';
+    first(&[
+        (14, !known(method)),
+        (1, accounts.len() != shorts.len() || by_code && codes.len() != shorts.len()),
+        (2, shorts.len() > MOST_POSITIONS),
+        (3, shorts.is_empty()),
+        (4, room < shorts.len()),
+    ])?;
+    let mut earlier = HashSet::new();
     let mut sum = 0u64;
-    for (&account, &short) in accounts.iter().zip(shorts) {
+    for (at, &short) in shorts.iter().enumerate() {
         sum += u64::from(short);
-        for (number, applies) in [(5, account <= before), (6, short == 0), (7, sum > MOST_CONTRACTS)] {
-            if applies {
-                return Err(number);
-            }
-        }
-        before = account;
+        first(&[
+            (5, !rises(if by_code { codes } else { accounts }, at)),
+            (19, by_code && (accounts[at] == 0 || !earlier.insert(accounts[at]))),
+            (6, short == 0),
+            (7, sum > MOST_CONTRACTS),
+        ])?;
     }
-    for (number, applies) in [(8, exercised == 0), (9, u64::from(exercised) > sum)] {
-        if applies {
-            return Err(number);
-        }
-    }
+    first(&[(8, exercised == 0), (9, u64::from(exercised) > sum)])?;
     Ok(sum as u32)
 }
 
@@ -102,15 +130,9 @@ pub fn by_draw(method: u8, shorts: &[u32], total: u32, exercised: u32, draw: u32
 }
 
 /// The allocating call; `room` is the length of its output.
-pub fn allocate(
-    method: u8,
-    accounts: &[u32],
-    shorts: &[u32],
-    exercised: u32,
-    draw: u32,
-    room: usize,
-) -> Result<Allocation, u32> {
-    let total = judge(method, accounts, shorts, exercised, room)?;
+pub fn allocate(method: u8, list: List, exercised: u32, draw: u32, room: usize) -> Result<Allocation, u32> {
+    let total = judge(method, list, exercised, room)?;
+    let shorts = list.shorts;
     let (amounts, further) = match without_draw(method, shorts, total, exercised) {
         Some(amounts) => (amounts, 0),
         None => {
@@ -276,65 +298,62 @@ pub fn read_text(text: &[u8]) -> Result<Series, u32> {
     };
     let exercised = number(line[1])?;
     let draw = number(line[2])?;
-    if lines.next() != Some(NAMES_3) {
-        return Err(12);
-    }
-    let mut series = Series { method, exercised, draw, accounts: Vec::new(), shorts: Vec::new() };
+    let columns = match lines.next() {
+        Some(NAMES_3) => 2,
+        Some(NAMES_3_WITH_CODE) => 3,
+        _ => return Err(12),
+    };
+    let mut series = Series { method, exercised, draw, codes: vec![], accounts: vec![], shorts: vec![] };
     for line in lines {
-        if series.accounts.len() == MOST_LINES {
+        if series.shorts.len() == MOST_LINES {
             return Err(15);
         }
-        let line = fields(line, 2)?;
-        let (account, short) = (number(line[0])?, number(line[1])?);
-        series.accounts.push(account);
-        series.shorts.push(short);
+        let numbers = fields(line, columns)?.into_iter().map(number).collect::<Result<Vec<u32>, u32>>()?;
+        // Of two columns the first is account and code.
+        series.codes.push(numbers[0]);
+        series.accounts.push(numbers[columns - 2]);
+        series.shorts.push(numbers[columns - 1]);
     }
     Ok(series)
 }
 
-/// The reading call; the rooms are the lengths of the two lent lists.
-pub fn read(text: &[u8], accounts_room: usize, shorts_room: usize) -> Result<Series, u32> {
+/// The reading call; the rooms are the lengths of the lent lists for codes, accounts and shorts.
+pub fn read(text: &[u8], rooms: [usize; 3]) -> Result<Series, u32> {
     let series = read_text(text)?;
-    if accounts_room.min(shorts_room) < series.accounts.len() {
+    if rooms.iter().any(|&room| room < series.shorts.len()) {
         return Err(4);
     }
     Ok(series)
+}
+
+/// The bytes of a series; with the code column where a code is not the account of its position.
+fn text_of(method: u8, exercised: u32, draw: u32, list: List) -> Vec<u8> {
+    let with_code = list.codes != list.accounts;
+    let mut text = NAMES_1.to_vec();
+    text.extend(format!("{},{exercised},{draw}\n", char::from(method)).bytes());
+    text.extend(if with_code { NAMES_3_WITH_CODE } else { NAMES_3 });
+    for ((code, account), short) in list.codes.iter().zip(list.accounts).zip(list.shorts) {
+        if with_code {
+            text.extend(format!("{code},").bytes());
+        }
+        text.extend(format!("{account},{short}\n").bytes());
+    }
+    text
 }
 
 /// The writing call; `room` is the length of its output.
-pub fn write(
-    method: u8,
-    exercised: u32,
-    draw: u32,
-    accounts: &[u32],
-    shorts: &[u32],
-    room: usize,
-) -> Result<Vec<u8>, u32> {
-    if !known(method) {
-        return Err(14);
-    }
-    if accounts.len() != shorts.len() {
-        return Err(1);
-    }
-    if accounts.len() > MOST_LINES {
-        return Err(15);
-    }
-    let mut text = NAMES_1.to_vec();
-    text.extend(format!("{},{exercised},{draw}\n", char::from(method)).bytes());
-    text.extend(NAMES_3);
-    for (account, short) in accounts.iter().zip(shorts) {
-        text.extend(format!("{account},{short}\n").bytes());
-    }
-    if room < text.len() {
-        return Err(4);
-    }
+pub fn write(method: u8, exercised: u32, draw: u32, list: List, room: usize) -> Result<Vec<u8>, u32> {
+    let [codes, accounts, shorts] = [list.codes, list.accounts, list.shorts].map(<[u32]>::len);
+    first(&[(14, !known(method)), (1, codes != shorts || accounts != shorts), (15, shorts > MOST_LINES)])?;
+    let text = text_of(method, exercised, draw, list);
+    first(&[(11, text.len() > MOST_BYTES), (4, room < text.len())])?;
     Ok(text)
 }
 
 /// The bytes that the program prints for a text.
 pub fn printed(text: &[u8]) -> Vec<u8> {
     let answer = read_text(text).and_then(|s| {
-        let found = allocate(s.method, &s.accounts, &s.shorts, s.exercised, s.draw, s.accounts.len())?;
+        let found = allocate(s.method, s.list(), s.exercised, s.draw, s.shorts.len())?;
         Ok((s.accounts, found.amounts))
     });
     let mut out = String::new();

@@ -25,8 +25,19 @@ fn upward(count: usize) -> Vec<u32> {
     (1..=count as u32).collect()
 }
 
+fn by_account(
+    method: u8,
+    accounts: &[u32],
+    shorts: &[u32],
+    exercised: u32,
+    draw: u32,
+    room: usize,
+) -> Result<Allocation, u32> {
+    allocate(method, List::by_account(accounts, shorts), exercised, draw, room)
+}
+
 fn answer(method: u8, shorts: &[u32], exercised: u32, draw: u32) -> Result<Allocation, u32> {
-    allocate(method, &upward(shorts.len()), shorts, exercised, draw, shorts.len())
+    by_account(method, &upward(shorts.len()), shorts, exercised, draw, shorts.len())
 }
 
 fn blocks(total: u32, exercised: u32, draw: u32) -> Vec<(u32, u32)> {
@@ -75,11 +86,12 @@ fn case_m_in_full() {
     assert_eq!(printed(text), output);
     assert_eq!(respond(text, output.len()), Ok(output.to_vec()));
     assert_eq!(respond(text, output.len() - 1), Err(4));
-    let series = read(text, 5, 5).unwrap();
+    let series = read(text, [5; 3]).unwrap();
     assert_eq!((series.method, series.exercised, series.draw), (b'L', 13, 4855));
+    assert_eq!(series.codes, [1, 2, 3, 4, 5]);
     assert_eq!(series.accounts, [1, 2, 3, 4, 5]);
     assert_eq!(series.shorts, [5, 8, 2, 10, 11]);
-    assert_eq!(write(b'L', 13, 4855, &series.accounts, &series.shorts, text.len()), Ok(text.to_vec()));
+    assert_eq!(write(b'L', 13, 4855, series.list(), text.len()), Ok(text.to_vec()));
 }
 
 #[test]
@@ -210,28 +222,31 @@ fn shares_over_all_starting_places() {
 fn allocating_refusals_in_order() {
     let many = upward(4_097);
     let ones = vec![1; 4_097];
-    assert_eq!(allocate(b'X', &[1], &[], 0, 0, 0), Err(14));
-    assert_eq!(allocate(b'w', &[1], &[1], 1, 1, 1), Err(14));
-    assert_eq!(allocate(b'W', &many, &ones[..4_096], 0, 0, 0), Err(1));
-    assert_eq!(allocate(b'W', &[], &[1], 0, 0, 0), Err(1));
-    assert_eq!(allocate(b'W', &many, &ones, 0, 0, 0), Err(2));
-    assert_eq!(allocate(b'W', &many[..4_096], &ones[..4_096], 1, 1, 4_096).map(|a| a.total), Ok(4_096));
-    assert_eq!(allocate(b'W', &[], &[], 0, 0, 0), Err(3));
-    assert_eq!(allocate(b'W', &[0], &[0], 0, 0, 0), Err(4));
-    assert_eq!(allocate(b'W', &[0], &[0], 0, 0, 1), Err(5));
-    assert_eq!(allocate(b'W', &[2, 2], &[1, 0], 0, 0, 2), Err(5));
-    assert_eq!(allocate(b'W', &[2, 1], &[1, u32::MAX], 0, 0, 2), Err(5));
-    assert_eq!(allocate(b'W', &[2, 1], &[0, 1], 0, 0, 2), Err(6));
-    assert_eq!(allocate(b'W', &[2, 1], &[10_000_001, 1], 0, 0, 2), Err(7));
-    assert_eq!(allocate(b'W', &[1, 2], &[10_000_000, 0], 0, 0, 2), Err(6));
-    assert_eq!(allocate(b'W', &[1, 2], &[10_000_000, 1], 0, 0, 2), Err(7));
-    assert_eq!(allocate(b'W', &[1, 2], &[u32::MAX, u32::MAX], 0, 0, 2), Err(7));
-    assert_eq!(allocate(b'W', &[1], &[10_000_000], 0, 0, 1), Err(8));
-    assert_eq!(allocate(b'W', &[1], &[10_000_000], 10_000_001, 0, 1), Err(9));
-    assert_eq!(allocate(b'W', &[1], &[10_000_000], 9_999_999, 0, 1), Err(10));
-    assert_eq!(allocate(b'W', &[1], &[10_000_000], 10_000_000, 0, 1).map(|a| a.total), Ok(10_000_000));
-    assert_eq!(allocate(b'P', &[u32::MAX], &[10_000_000], 10_000_000, 0, 1).map(|a| a.total), Ok(10_000_000));
+    assert_eq!(by_account(b'X', &[1], &[], 0, 0, 0), Err(14));
+    assert_eq!(by_account(b'w', &[1], &[1], 1, 1, 1), Err(14));
+    assert_eq!(by_account(b'W', &many, &ones[..4_096], 0, 0, 0), Err(1));
+    assert_eq!(by_account(b'W', &[], &[1], 0, 0, 0), Err(1));
+    assert_eq!(by_account(b'W', &many, &ones, 0, 0, 0), Err(2));
+    assert_eq!(by_account(b'W', &many[..4_096], &ones[..4_096], 1, 1, 4_096).map(|a| a.total), Ok(4_096));
+    assert_eq!(by_account(b'W', &[], &[], 0, 0, 0), Err(3));
+    assert_eq!(by_account(b'W', &[0], &[0], 0, 0, 0), Err(4));
+    assert_eq!(by_account(b'W', &[0], &[0], 0, 0, 1), Err(5));
+    assert_eq!(by_account(b'W', &[2, 2], &[1, 0], 0, 0, 2), Err(5));
+    assert_eq!(by_account(b'W', &[2, 1], &[1, u32::MAX], 0, 0, 2), Err(5));
+    assert_eq!(by_account(b'W', &[2, 1], &[0, 1], 0, 0, 2), Err(6));
+    assert_eq!(by_account(b'W', &[2, 1], &[10_000_001, 1], 0, 0, 2), Err(7));
+    assert_eq!(by_account(b'W', &[1, 2], &[10_000_000, 0], 0, 0, 2), Err(6));
+    assert_eq!(by_account(b'W', &[1, 2], &[10_000_000, 1], 0, 0, 2), Err(7));
+    assert_eq!(by_account(b'W', &[1, 2], &[u32::MAX, u32::MAX], 0, 0, 2), Err(7));
+    assert_eq!(by_account(b'W', &[1], &[10_000_000], 0, 0, 1), Err(8));
+    assert_eq!(by_account(b'W', &[1], &[10_000_000], 10_000_001, 0, 1), Err(9));
+    assert_eq!(by_account(b'W', &[1], &[10_000_000], 9_999_999, 0, 1), Err(10));
+    assert_eq!(by_account(b'W', &[1], &[10_000_000], 10_000_000, 0, 1).map(|a| a.total), Ok(10_000_000));
+    assert_eq!(by_account(b'P', &[u32::MAX], &[10_000_000], 10_000_000, 0, 1).map(|a| a.total), Ok(10_000_000));
 }
+
+const NAMES: &str = "account,short\n";
+const LONG_NAMES: &str = "code,account,short\n";
 
 fn text(line_2: &str, line_3: &str, rest: &str) -> Vec<u8> {
     format!("method,exercised,draw\n{line_2}{line_3}{rest}").into_bytes()
@@ -239,7 +254,7 @@ fn text(line_2: &str, line_3: &str, rest: &str) -> Vec<u8> {
 
 #[test]
 fn reading_refusals_in_order() {
-    let good = "account,short\n";
+    let good = NAMES;
     assert_eq!(read_text(b""), Err(12));
     assert_eq!(read_text(b"\n"), Err(12));
     assert_eq!(read_text(b"method,exercised,draw"), Err(12));
@@ -273,6 +288,10 @@ fn reading_refusals_in_order() {
     }
     for line in ["", "\n", "account,short", "account,short\r\n", "account,shorts\n", "1,1\n", " account,short\n"] {
         assert_eq!(read_text(&text("W,1,1\n", line, "")), Err(12), "{line:?}");
+        assert_eq!(read_text(&text("W,1,1\n", &format!("code,{line}"), "")), Err(12), "code,{line:?}");
+    }
+    for line in ["code,account\n", "account,code,short\n", "codes,account,short\n", "code,code,account,short\n"] {
+        assert_eq!(read_text(&text("W,1,1\n", line, "")), Err(12), "{line:?}");
     }
     for line in ["\n", "1,1", "1\n", "1,1,1\n", "1,\n", ",1\n", "1,1\n\n", "1,1\r\n", "a\n", "1,4294967296\n"] {
         assert_eq!(read_text(&text("W,1,1\n", good, line)), Err(13), "{line:?}");
@@ -289,21 +308,28 @@ fn reading_refusals_in_order() {
     assert_eq!(read_text(&vec![b'x'; 32_769]), Err(11));
     assert_eq!(read_text(&vec![b'x'; 32_768]), Err(12));
     let one = text("W,1,1\n", good, "1,1\n");
-    for (accounts, shorts, answer) in [(0, 1, Some(4)), (1, 0, Some(4)), (1, 1, None), (2, 3, None)] {
-        assert_eq!(read(&one, accounts, shorts).err(), answer);
+    for rooms in [[0, 1, 1], [1, 0, 1], [1, 1, 0], [0, 0, 9]] {
+        assert_eq!(read(&one, rooms), Err(4), "{rooms:?}");
     }
-    assert_eq!(read(&text("W,1,1\n", good, "1,1\nx\n"), 0, 0), Err(13));
+    for rooms in [[1, 1, 1], [4, 2, 3]] {
+        assert_eq!(read(&one, rooms).map(|s| s.shorts.len()), Ok(1), "{rooms:?}");
+    }
+    assert_eq!(read(&text("W,1,1\n", good, "1,1\nx\n"), [0; 3]), Err(13));
 }
 
-// What a number reads as: as S, draw, account and shorts.
-fn read_in_each_field(number: &str) -> [Result<u32, u32>; 4] {
+// What a number reads as: as S, draw, account and shorts, then as S, draw, code, account and shorts.
+fn read_in_each_field(number: &str) -> [Result<u32, u32>; 9] {
     std::array::from_fn(|field| {
-        let mut fields = ["1"; 4];
-        fields[field] = number;
-        let [exercised, draw, account, short] = fields;
-        let line_2 = format!("W,{exercised},{draw}\n");
-        let series = read_text(&text(&line_2, "account,short\n", &format!("{account},{short}\n")))?;
-        Ok([series.exercised, series.draw, series.accounts[0], series.shorts[0]][field])
+        let mut numbers = ["1"; 9];
+        numbers[field] = number;
+        let [exercised, draw, account, short, exercised_2, draw_2, code_2, account_2, short_2] = numbers;
+        let short_form = text(&format!("W,{exercised},{draw}\n"), NAMES, &format!("{account},{short}\n"));
+        let lines = format!("{code_2},{account_2},{short_2}\n");
+        let long_form = text(&format!("W,{exercised_2},{draw_2}\n"), LONG_NAMES, &lines);
+        let (a, b) = (read_text(&short_form)?, read_text(&long_form)?);
+        assert_eq!(a.codes, a.accounts);
+        let found = [a.exercised, a.draw, a.accounts[0], a.shorts[0]];
+        Ok([&found[..], &[b.exercised, b.draw, b.codes[0], b.accounts[0], b.shorts[0]]].concat()[field])
     })
 }
 
@@ -322,7 +348,7 @@ fn spellings_of_a_number() {
         ("1000000000", 1_000_000_000),
         ("4294967295", u32::MAX),
     ] {
-        assert_eq!(read_in_each_field(number), [Ok(value); 4], "{number}");
+        assert_eq!(read_in_each_field(number), [Ok(value); 9], "{number}");
     }
     for number in [
         "",
@@ -339,7 +365,7 @@ fn spellings_of_a_number() {
         "-01",
         "000000000\u{661}",
     ] {
-        assert_eq!(read_in_each_field(number), [Err(13); 4], "{number:?}");
+        assert_eq!(read_in_each_field(number), [Err(13); 9], "{number:?}");
     }
 }
 
@@ -364,14 +390,14 @@ fn two_spellings_are_one_account() {
 fn spelling_changes_nothing_that_is_written() {
     for (method, shorts, exercised, draw, ..) in KNOWN {
         let accounts = upward(shorts.len());
-        let written = write(method, exercised, draw, &accounts, shorts, MOST_BYTES).unwrap();
+        let written = write(method, exercised, draw, List::by_account(&accounts, shorts), MOST_BYTES).unwrap();
         for width in 1..=MOST_DIGITS {
             let line_2 = format!("{},{exercised:0width$},{draw:0width$}\n", char::from(method));
             let lines = accounts.iter().zip(shorts).map(|(a, s)| format!("{a:0width$},{s:0width$}\n"));
             let spelled = text(&line_2, "account,short\n", &lines.collect::<String>());
             assert_eq!(printed(&spelled), printed(&written), "{width}");
             let series = read_text(&spelled).unwrap();
-            let again = write(method, series.exercised, series.draw, &series.accounts, &series.shorts, written.len());
+            let again = write(method, series.exercised, series.draw, series.list(), written.len());
             assert_eq!(again.as_ref(), Ok(&written), "{width}");
         }
     }
@@ -379,15 +405,41 @@ fn spelling_changes_nothing_that_is_written() {
 
 #[test]
 fn writing_refusals_in_order() {
-    let list = vec![0; 1_025];
-    assert_eq!(write(b'w', 0, 0, &[1], &[], 0), Err(14));
-    assert_eq!(write(b'W', 0, 0, &list, &list[1..], 0), Err(1));
-    assert_eq!(write(b'W', 0, 0, &list, &list, 0), Err(15));
-    assert_eq!(write(b'W', 0, 0, &list[1..], &list[1..], 0), Err(4));
-    let short = write(b'P', 0, u32::MAX, &[], &[], 100).unwrap();
+    let zeros = vec![0; 1_025];
+    let written = |method, [codes, accounts, shorts]: [usize; 3], room| {
+        let list = List { codes: &zeros[..codes], accounts: &zeros[..accounts], shorts: &zeros[..shorts] };
+        write(method, 0, 0, list, room)
+    };
+    assert_eq!(written(b'w', [1, 1, 0], 0), Err(14));
+    for lengths in [[1_024, 1_025, 1_025], [1_025, 1_024, 1_025], [1_025, 1_025, 1_024], [0, 1, 1], [0, 1, 2]] {
+        assert_eq!(written(b'P', lengths, 0), Err(1), "{lengths:?}");
+    }
+    assert_eq!(written(b'W', [1_025; 3], 0), Err(15));
+    assert_eq!(written(b'W', [1_024; 3], 0), Err(4));
+    let none = List::by_account(&[], &[]);
+    let short = write(b'P', 0, u32::MAX, none, 100).unwrap();
     assert_eq!(short, b"method,exercised,draw\nP,0,4294967295\naccount,short\n");
-    assert_eq!(write(b'P', 0, u32::MAX, &[], &[], short.len()), Ok(short.clone()));
-    assert_eq!(write(b'P', 0, u32::MAX, &[], &[], short.len() - 1), Err(4));
+    assert_eq!(write(b'P', 0, u32::MAX, none, short.len()), Ok(short.clone()));
+    assert_eq!(write(b'P', 0, u32::MAX, none, short.len() - 1), Err(4));
+}
+
+#[test]
+fn writing_at_most_32_768_bytes() {
+    // The names lines and line 2 have 47 bytes, each further line 32, and the last one what is left.
+    let mut shorts = vec![100_000_000; 1_022];
+    let (mut codes, mut accounts) = (vec![u32::MAX; 1_022], vec![u32::MAX - 1; 1_022]);
+    shorts.push(1);
+    codes.push(1);
+    accounts.push(200_000);
+    for (last, length) in [(1_000_000, 32_768), (10_000_000, 32_769), (u32::MAX, 32_771)] {
+        codes[1_022] = last;
+        let list = List { codes: &codes, accounts: &accounts, shorts: &shorts };
+        for room in [0, 32_767, 32_768, 32_771, 40_000] {
+            let found = write(b'W', 0, 0, list, room).map(|text| text.len());
+            let expected = if room < 32_768 { Err(4) } else { Ok(length) };
+            assert_eq!(found, if length > 32_768 { Err(11) } else { expected }, "{last} {room}");
+        }
+    }
 }
 
 #[test]
@@ -404,4 +456,108 @@ fn printed_refusals() {
     assert_eq!(printed(&text("W,1,\n", "account,short\n", "1,1\n")), b"refused\n13\n");
     assert_eq!(respond(b"", 10), Err(4));
     assert_eq!(respond(b"", 11), Ok(b"refused\n12\n".to_vec()));
+}
+
+// A, with the accounts in another order than the codes.
+const CODED: List = List { codes: &[3, 7, 9], accounts: &[20, 4, 11], shorts: &[60, 200, 95] };
+const CODED_TEXT: &str = "method,exercised,draw\nW,175,1\ncode,account,short\n3,20,60\n7,4,200\n9,11,95\n";
+
+#[test]
+fn the_wheel_goes_by_code() {
+    let found = allocate(b'W', CODED, 175, 1, 3);
+    assert_eq!(found, Ok(Allocation { amounts: vec![35, 97, 43], total: 355, further: 7 }));
+    for method in *b"PL" {
+        assert_eq!(allocate(method, CODED, 175, 1, 3), Err(5));
+    }
+}
+
+// The number that W meets with one contract exercised of a list, and P with the same.
+fn met(codes: &[u32], accounts: &[u32], shorts: &[u32]) -> [u32; 2] {
+    let list = List { codes, accounts, shorts };
+    [b'W', b'P'].map(|method| allocate(method, list, 1, 1, 9).map_or_else(|number| number, |_| 0))
+}
+
+#[test]
+fn codes_and_accounts_are_judged() {
+    for (codes, accounts, shorts, expected) in [
+        (&[1, 2, 3][..], &[1, 2, 3][..], &[1, 1, 1][..], [0, 0]),
+        (&[1, 2, u32::MAX], &[u32::MAX, 2, 1], &[1, 1, 1], [0, 5]),
+        (&[0, 2, 3], &[1, 2, 3], &[1, 1, 1], [5, 0]),
+        (&[1, 2, 2], &[1, 2, 3], &[1, 1, 1], [5, 0]),
+        (&[2, 1, 3], &[1, 2, 3], &[1, 1, 1], [5, 0]),
+        (&[1, 2, 3], &[0, 2, 3], &[1, 1, 1], [19, 5]),
+        (&[1, 2, 3], &[1, 2, 0], &[1, 1, 1], [19, 5]),
+        (&[1, 2, 3], &[4, 5, 5], &[1, 1, 1], [19, 5]),
+        (&[1, 2, 3], &[5, 4, 5], &[1, 1, 1], [19, 5]),
+        // Several in one position.
+        (&[0, 2, 3], &[0, 2, 3], &[0, 1, 1], [5, 5]),
+        (&[1, 2, 2], &[5, 4, 5], &[1, 1, 0], [5, 5]),
+        (&[1, 2, 3], &[5, 4, 5], &[1, 1, 0], [19, 5]),
+        (&[1, 2, 3], &[5, 4, 5], &[1, 1, u32::MAX], [19, 5]),
+        (&[1, 2, 3], &[0, 4, 5], &[u32::MAX, 1, 1], [19, 5]),
+        // An earlier position comes first.
+        (&[1, 2, 2], &[5, 5, 6], &[1, 1, 1], [19, 5]),
+        (&[1, 2, 2], &[5, 6, 6], &[1, 0, 1], [6, 6]),
+        (&[1, 2, 3], &[5, 6, 6], &[1, u32::MAX, 1], [7, 7]),
+        // Lengths: only W looks at the codes.
+        (&[], &[1, 2, 3], &[1, 1, 1], [1, 0]),
+        (&[1, 2], &[1, 2, 3], &[1, 1, 1], [1, 0]),
+        (&[1, 2, 3, 4], &[1, 2, 3], &[1, 1, 1], [1, 0]),
+        (&[1, 2, 3], &[1, 2], &[1, 1, 1], [1, 1]),
+        (&[1, 2], &[1, 2], &[1, 1, 1], [1, 1]),
+        (&[1], &[], &[], [1, 3]),
+        (&[], &[], &[], [3, 3]),
+    ] {
+        assert_eq!(met(codes, accounts, shorts), expected, "{codes:?} {accounts:?} {shorts:?}");
+    }
+    let many = upward(4_097);
+    assert_eq!(met(&many[..4_096], &many, &many), [1, 2]);
+}
+
+#[test]
+fn texts_with_codes() {
+    let series = read(CODED_TEXT.as_bytes(), [3; 3]).unwrap();
+    assert_eq!((&series.codes[..], &series.accounts[..]), (CODED.codes, CODED.accounts));
+    assert_eq!((series.method, &series.shorts[..]), (b'W', CODED.shorts));
+    assert_eq!(write(b'W', 175, 1, CODED, CODED_TEXT.len()).unwrap(), CODED_TEXT.as_bytes());
+    assert_eq!(write(b'W', 175, 1, CODED, CODED_TEXT.len() - 1), Err(4));
+    assert_eq!(printed(CODED_TEXT.as_bytes()), b"account,assigned\n20,35\n4,97\n11,43\n");
+    for (lines, number) in [
+        ("1,1\n", 13),
+        ("1,1,1,1\n", 13),
+        ("1,1,1", 13),
+        (",1,1\n", 13),
+        ("1,,1\n", 13),
+        ("1,1,\n", 13),
+        ("00000000001,1,1\n", 13),
+        ("4294967296,1,1\n", 13),
+        ("", 3),
+        ("0,0,0\n", 5),
+        ("1,0,0\n", 19),
+        ("1,5,1\n2,6,1\n0003,0005,0\n", 19),
+        ("1,5,1\n2,6,1\n02,5,0\n", 5),
+    ] {
+        let found = printed(&text("W,1,1\n", LONG_NAMES, lines));
+        assert_eq!(found, format!("refused\n{number}\n").into_bytes(), "{lines:?}");
+    }
+    let most = "0,0,0\n".repeat(1_024);
+    assert_eq!(read_text(&text("W,1,1\n", LONG_NAMES, &most)).unwrap().codes, [0; 1_024]);
+    assert_eq!(read_text(&text("W,1,1\n", LONG_NAMES, &format!("{most}x"))), Err(15));
+    assert_eq!(printed(&text("L,3,5000\n", LONG_NAMES, "0,4,2\n0,5,2\n")), b"account,assigned\n4,1\n5,2\n");
+}
+
+#[test]
+fn a_code_column_that_says_nothing_is_left_out() {
+    for (lines, written) in [
+        ("", "account,short\n"),
+        ("5,5,9\n", "account,short\n5,9\n"),
+        ("05,5,9\n2,002,8\n", "account,short\n5,9\n2,8\n"),
+        ("5,5,9\n7,6,1\n", "code,account,short\n5,5,9\n7,6,1\n"),
+        ("5,6,9\n6,5,9\n", "code,account,short\n5,6,9\n6,5,9\n"),
+    ] {
+        let series = read_text(&text("W,1,1\n", LONG_NAMES, lines)).unwrap();
+        let found = write(b'W', 1, 1, series.list(), MOST_BYTES).unwrap();
+        assert_eq!(String::from_utf8_lossy(&found), format!("method,exercised,draw\nW,1,1\n{written}"));
+        assert_eq!(read_text(&found), Ok(series));
+    }
 }

@@ -27,22 +27,22 @@ same-length : tie.Need-same-length
 same-length c = search needs
 
 returns : tie.Need-returns
-returns c = let a = c .before .before .before .before .before .before .before .before .before .before .args in
-    by-method (a .terms) Method.Wheel (a .accounts .now) (a .shorts .now) _ (a .amounts .now) _ (c .before .before .before .before .enum-told .given .1) (c .before .before .allocate-wheel .ensures)
+returns c = let a = c .before .before .before .before .before .before .before .before .before .before .before .args in
+    by-method (a .terms) Method.Wheel (a .codes .now) (a .accounts .now) (a .shorts .now) _ (a .amounts .now) _ (c .before .before .before .before .enum-told .given .1) (c .before .before .allocate-wheel .ensures)
 
 same-length-2 : tie.Need-same-length-2
 same-length-2 c = search needs
 
 returns-2 : tie.Need-returns-2
-returns-2 c = let a = c .before .before .before .before .before .before .before .before .before .before .args in
-    by-method (a .terms) Method.ProRata (a .accounts .now) (a .shorts .now) _ (a .amounts .now) _ (c .before .before .before .before .enum-told2 .given .1) (c .before .before .allocate .ensures)
+returns-2 c = let a = c .before .before .before .before .before .before .before .before .before .before .before .args in
+    by-method (a .terms) Method.ProRata (a .codes .now) (a .accounts .now) (a .shorts .now) _ (a .amounts .now) _ (c .before .before .before .before .enum-told2 .given .1) (c .before .before .allocate .ensures (a .codes .now))
 
 same-length-3 : tie.Need-same-length-3
 same-length-3 c = search needs
 
 returns-3 : tie.Need-returns-3
-returns-3 c = let a = c .before .before .before .before .before .before .before .before .before .before .args in
-    by-method (a .terms) Method.Lottery (a .accounts .now) (a .shorts .now) _ (a .amounts .now) _ (c .before .before .before .before .enum-told3 .given .1) (c .before .before .allocate-lottery .ensures)
+returns-3 c = let a = c .before .before .before .before .before .before .before .before .before .before .before .args in
+    by-method (a .terms) Method.Lottery (a .codes .now) (a .accounts .now) (a .shorts .now) _ (a .amounts .now) _ (c .before .before .before .before .enum-told3 .given .1) (c .before .before .allocate-lottery .ensures (a .codes .now))
 
 pub allocate-spec : {M : Type 1} → statement M
 allocate-spec =

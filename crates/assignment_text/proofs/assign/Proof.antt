@@ -11,12 +11,12 @@ use Rattle.assignment_text.proofs.assign.Tie as tie
 
 -- the series that is called
 series : (c : tie.After-allocate) → Series
-series c = let a = c .before .before .before .before .before .before .args in record { terms = a .terms; accounts = a .accounts .now; shorts = a .shorts .now }
+series c = let a = c .before .before .before .before .before .before .before .args in record { terms = a .terms; codes = a .codes .now; accounts = a .accounts .now; shorts = a .shorts .now }
 
 -- what the allocating call answered
 told : (c : tie.After-allocate) → answerOf (c .allocate .result) ≡ answer (series c) (length (series c .shorts))
 unfolding series
-told c = rw (c .before .before .before .before .before .before .pre .beside) at (c .allocate .ensures .answered)
+told c = rw (c .before .before .before .before .before .before .before .pre .beside) at (c .allocate .ensures .answered)
 
 allocate-requires : tie.Need-allocate-requires
 allocate-requires c κs = search needs
@@ -35,7 +35,7 @@ same-length-2 c = search needs
 
 returns : tie.Need-returns
 unfolding series
-returns c = let s = c .before .before .before .before .before .before .before .before .before .before .before .before .before .before in
+returns c = let s = c .before .before .before .before .before .before .before .before .before .before .before .before .before .before .before in
     let call = c .before .before .before .before .before .before .before .before in
     let is = amounts-are (series call) (call .allocate .result) (c .before .before .before .before .before .match .keys2) (told call) (s .args .amounts .now) _ (s .pre .beside) (call .allocate .ensures .written) in
     assigned-all (series call) (call .allocate .result) (c .before .before .before .before .before .match .keys2) (told call) (c .before .before .print .result) (s .args .output .now) _ (rw is at (c .before .before .print .ensures))
@@ -52,7 +52,7 @@ same-length-4 c = search needs
 returns-2 : tie.Need-returns-2
 unfolding series
 returns-2 c = let call = c .before .before .before .before .before .before .before .before .before in
-    turned-away (series call) (c .before .before .refuse .result) (c .before .before .before .before .before .before .before .before .before .before .before .before .before .before .before .args .output .now) _ _ (ap answerOf (sym (c .before .before .before .before .before .answer .given .1)) ∙ told call) (c .before .before .refuse .ensures)
+    turned-away (series call) (c .before .before .refuse .result) (c .before .before .before .before .before .before .before .before .before .before .before .before .before .before .before .before .args .output .now) _ _ (ap answerOf (sym (c .before .before .before .before .before .answer .given .1)) ∙ told call) (c .before .before .refuse .ensures)
 
 pub assign-spec : {M : Type 1} → statement M
 assign-spec =

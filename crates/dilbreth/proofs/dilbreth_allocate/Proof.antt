@@ -17,8 +17,8 @@ enum-told : tie.Need-enum-told
 enum-told c = search needs
 
 returns : tie.Need-returns
-returns c = let a = c .before .before .before .before .before .before .args in
-    allocate-unknown (a .method) (a .exercised) (a .draw) (a .accounts .now) (a .shorts .now) (sym (ap namedMeans (c .enum-told .given .1)) ∙ c .before .before .method-by .ensures) (a .amounts .now) (a .total .now) (a .further .now)
+returns c = let a = c .before .before .before .before .before .before .before .args in
+    allocate-unknown (a .method) (a .exercised) (a .draw) (a .codes .now) (a .accounts .now) (a .shorts .now) (sym (ap namedMeans (c .enum-told .given .1)) ∙ c .before .before .method-by .ensures) (a .amounts .now) (a .total .now) (a .further .now)
 
 terms-of-requires : tie.Need-terms-of-requires
 terms-of-requires c κs = search needs
@@ -48,41 +48,41 @@ same-length : tie.Need-same-length
 same-length c = search needs
 
 returns-2 : tie.Need-returns-2
-returns-2 c = let a = c .before .before .before .before .before .before .before .before .before .before .before .before .before .before .before .args in
+returns-2 c = let a = c .before .before .before .before .before .before .before .before .before .before .before .before .before .before .before .before .args in
     let call = c .before .before .before .before .before .allocate in
-    allocate-known (a .method) (a .exercised) (a .draw) (a .accounts .now) (a .shorts .now) _ (sym (ap namedMeans (c .before .before .before .before .before .before .before .before .before .named .given .1)) ∙ c .before .before .before .before .before .before .before .before .before .before .before .method-by .ensures) _ (c .before .before .before .before .before .before .before .terms-of .ensures) _ (a .amounts .now) _ (a .total .now) (a .further .now) (sym (ap answerOf (c .before .sum .given .1)) ∙ call .ensures .answered) (call .ensures .written)
+    allocate-known (a .method) (a .exercised) (a .draw) (a .codes .now) (a .accounts .now) (a .shorts .now) _ (sym (ap namedMeans (c .before .before .before .before .before .before .before .before .before .named .given .1)) ∙ c .before .before .before .before .before .before .before .before .before .before .before .method-by .ensures) _ (c .before .before .before .before .before .before .before .terms-of .ensures) _ (a .amounts .now) _ (a .total .now) (a .further .now) (sym (ap answerOf (c .before .sum .given .1)) ∙ call .ensures .answered) (call .ensures .written)
 
 same-length-2 : tie.Need-same-length-2
 same-length-2 c = search needs
 
 returns-3 : tie.Need-returns-3
-returns-3 c = let a = c .before .before .before .before .before .before .before .before .before .before .before .before .before .before .before .args in
+returns-3 c = let a = c .before .before .before .before .before .before .before .before .before .before .before .before .before .before .before .before .args in
     let call = c .before .before .before .before .before .allocate in
-    allocate-known (a .method) (a .exercised) (a .draw) (a .accounts .now) (a .shorts .now) _ (sym (ap namedMeans (c .before .before .before .before .before .before .before .before .before .named .given .1)) ∙ c .before .before .before .before .before .before .before .before .before .before .before .method-by .ensures) _ (c .before .before .before .before .before .before .before .terms-of .ensures) _ (a .amounts .now) _ (a .total .now) (a .further .now) (sym (ap answerOf (c .before .sum2 .given .1)) ∙ call .ensures .answered) (call .ensures .written)
+    allocate-known (a .method) (a .exercised) (a .draw) (a .codes .now) (a .accounts .now) (a .shorts .now) _ (sym (ap namedMeans (c .before .before .before .before .before .before .before .before .before .named .given .1)) ∙ c .before .before .before .before .before .before .before .before .before .before .before .method-by .ensures) _ (c .before .before .before .before .before .before .before .terms-of .ensures) _ (a .amounts .now) _ (a .total .now) (a .further .now) (sym (ap answerOf (c .before .sum2 .given .1)) ∙ call .ensures .answered) (call .ensures .written)
 
 same-length-3 : tie.Need-same-length-3
 same-length-3 c = search needs
 
 returns-4 : tie.Need-returns-4
-returns-4 c = let a = c .before .before .before .before .before .before .before .before .before .before .before .before .before .before .before .args in
+returns-4 c = let a = c .before .before .before .before .before .before .before .before .before .before .before .before .before .before .before .before .args in
     let call = c .before .before .before .before .before .allocate in
-    allocate-known (a .method) (a .exercised) (a .draw) (a .accounts .now) (a .shorts .now) _ (sym (ap namedMeans (c .before .before .before .before .before .before .before .before .before .named .given .1)) ∙ c .before .before .before .before .before .before .before .before .before .before .before .method-by .ensures) _ (c .before .before .before .before .before .before .before .terms-of .ensures) _ (a .amounts .now) _ (a .total .now) (a .further .now) (sym (ap answerOf (c .before .sum3 .given .1)) ∙ call .ensures .answered) (call .ensures .written)
+    allocate-known (a .method) (a .exercised) (a .draw) (a .codes .now) (a .accounts .now) (a .shorts .now) _ (sym (ap namedMeans (c .before .before .before .before .before .before .before .before .before .named .given .1)) ∙ c .before .before .before .before .before .before .before .before .before .before .before .method-by .ensures) _ (c .before .before .before .before .before .before .before .terms-of .ensures) _ (a .amounts .now) _ (a .total .now) (a .further .now) (sym (ap answerOf (c .before .sum3 .given .1)) ∙ call .ensures .answered) (call .ensures .written)
 
 same-length-4 : tie.Need-same-length-4
 same-length-4 c = search needs
 
 returns-5 : tie.Need-returns-5
-returns-5 c = let a = c .before .before .before .before .before .before .before .before .before .before .before .before .before .before .before .args in
+returns-5 c = let a = c .before .before .before .before .before .before .before .before .before .before .before .before .before .before .before .before .args in
     let call = c .before .before .before .before .before .allocate in
-    allocate-known (a .method) (a .exercised) (a .draw) (a .accounts .now) (a .shorts .now) _ (sym (ap namedMeans (c .before .before .before .before .before .before .before .before .before .named .given .1)) ∙ c .before .before .before .before .before .before .before .before .before .before .before .method-by .ensures) _ (c .before .before .before .before .before .before .before .terms-of .ensures) _ (a .amounts .now) _ (a .total .now) (a .further .now) (sym (ap answerOf (c .before .sum4 .given .1)) ∙ call .ensures .answered) (call .ensures .written)
+    allocate-known (a .method) (a .exercised) (a .draw) (a .codes .now) (a .accounts .now) (a .shorts .now) _ (sym (ap namedMeans (c .before .before .before .before .before .before .before .before .before .named .given .1)) ∙ c .before .before .before .before .before .before .before .before .before .before .before .method-by .ensures) _ (c .before .before .before .before .before .before .before .terms-of .ensures) _ (a .amounts .now) _ (a .total .now) (a .further .now) (sym (ap answerOf (c .before .sum4 .given .1)) ∙ call .ensures .answered) (call .ensures .written)
 
 same-length-5 : tie.Need-same-length-5
 same-length-5 c = search needs
 
 returns-6 : tie.Need-returns-6
-returns-6 c = let a = c .before .before .before .before .before .before .before .before .before .before .before .before .before .before .before .before .args in
+returns-6 c = let a = c .before .before .before .before .before .before .before .before .before .before .before .before .before .before .before .before .before .args in
     let call = c .before .before .before .before .before .before .allocate in
-    rw (c .number .ensures) (allocate-known (a .method) (a .exercised) (a .draw) (a .accounts .now) (a .shorts .now) _ (sym (ap namedMeans (c .before .before .before .before .before .before .before .before .before .before .named .given .1)) ∙ c .before .before .before .before .before .before .before .before .before .before .before .before .method-by .ensures) _ (c .before .before .before .before .before .before .before .before .terms-of .ensures) _ (a .amounts .now) _ (a .total .now) (a .further .now) (sym (ap answerOf (c .before .before .refusal .given .1)) ∙ call .ensures .answered) (call .ensures .written))
+    rw (c .number .ensures) (allocate-known (a .method) (a .exercised) (a .draw) (a .codes .now) (a .accounts .now) (a .shorts .now) _ (sym (ap namedMeans (c .before .before .before .before .before .before .before .before .before .before .named .given .1)) ∙ c .before .before .before .before .before .before .before .before .before .before .before .before .method-by .ensures) _ (c .before .before .before .before .before .before .before .before .terms-of .ensures) _ (a .amounts .now) _ (a .total .now) (a .further .now) (sym (ap answerOf (c .before .before .refusal .given .1)) ∙ call .ensures .answered) (call .ensures .written))
 
 pub dilbreth-allocate-spec : {M : Type 1} → statement M
 dilbreth-allocate-spec =

@@ -27,21 +27,27 @@ same-length c = search needs
 same-length-2 : tie.Need-same-length-2
 same-length-2 c = search needs
 
-returns : tie.Need-returns
-returns c = let a = c .before .before .before .before .before .before .before .before .before .before .before .before .before .before .args in
-    let read = c .before .before .before .before .before .before .before .before .read in
-    (read .ensures .1 .0, (read .ensures .1 .1, rw (c .letter-of .ensures) (read-hands _ _ (a .method .now) (a .exercised .now) (a .draw .now) (a .positions .now) (sym (ap readingOf (c .before .before .terms .given .1)) ∙ read .ensures .0))))
-
 same-length-3 : tie.Need-same-length-3
 same-length-3 c = search needs
+
+returns : tie.Need-returns
+returns c = let a = c .before .before .before .before .before .before .before .before .before .before .before .before .before .before .before .before .before .before .args in
+    let read = c .before .before .before .before .before .before .before .before .before .before .read in
+    (read .ensures .1 .0, (read .ensures .1 .1 .0, (read .ensures .1 .1 .1, rw (c .letter-of .ensures) (read-hands _ _ (a .method .now) (a .exercised .now) (a .draw .now) (a .positions .now) (sym (ap readingOf (c .before .before .terms .given .1)) ∙ read .ensures .0)))))
 
 same-length-4 : tie.Need-same-length-4
 same-length-4 c = search needs
 
+same-length-5 : tie.Need-same-length-5
+same-length-5 c = search needs
+
+same-length-6 : tie.Need-same-length-6
+same-length-6 c = search needs
+
 returns-2 : tie.Need-returns-2
-returns-2 c = let a = c .before .before .before .before .before .before .before .before .before .before .before .before .before .before .args in
-    let read = c .before .before .before .before .before .before .before .before .read in
-    (read .ensures .1 .0, (read .ensures .1 .1, rw (c .number .ensures) (read-hands _ _ (a .method .now) (a .exercised .now) (a .draw .now) (a .positions .now) (sym (ap readingOf (c .before .before .refusal .given .1)) ∙ read .ensures .0))))
+returns-2 c = let a = c .before .before .before .before .before .before .before .before .before .before .before .before .before .before .before .before .before .before .args in
+    let read = c .before .before .before .before .before .before .before .before .before .before .read in
+    (read .ensures .1 .0, (read .ensures .1 .1 .0, (read .ensures .1 .1 .1, rw (c .number .ensures) (read-hands _ _ (a .method .now) (a .exercised .now) (a .draw .now) (a .positions .now) (sym (ap readingOf (c .before .before .refusal .given .1)) ∙ read .ensures .0)))))
 
 pub dilbreth-read-spec : {M : Type 1} → statement M
 dilbreth-read-spec =
@@ -54,7 +60,9 @@ dilbreth-read-spec =
     number-requires
     same-length
     same-length-2
-    returns
     same-length-3
+    returns
     same-length-4
+    same-length-5
+    same-length-6
     returns-2)

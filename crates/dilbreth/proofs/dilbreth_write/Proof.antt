@@ -17,8 +17,8 @@ enum-told : tie.Need-enum-told
 enum-told c = search needs
 
 returns : tie.Need-returns
-returns c = let a = c .before .before .before .before .before .before .args in
-    write-unknown (a .method) (a .exercised) (a .draw) (a .accounts .now) (a .shorts .now) (sym (ap namedMeans (c .enum-told .given .1)) ∙ c .before .before .method-by .ensures) (a .text .now) (a .written .now)
+returns c = let a = c .before .before .before .before .before .before .before .args in
+    write-unknown (a .method) (a .exercised) (a .draw) (a .codes .now) (a .accounts .now) (a .shorts .now) (sym (ap namedMeans (c .enum-told .given .1)) ∙ c .before .before .method-by .ensures) (a .text .now) (a .written .now)
 
 terms-of-requires : tie.Need-terms-of-requires
 terms-of-requires c κs = search needs
@@ -39,17 +39,17 @@ same-length : tie.Need-same-length
 same-length c = search needs
 
 returns-2 : tie.Need-returns-2
-returns-2 c = let a = c .before .before .before .before .before .before .before .before .before .before .before .before .before .before .before .args in
+returns-2 c = let a = c .before .before .before .before .before .before .before .before .before .before .before .before .before .before .before .before .args in
     let write = c .before .before .before .before .before .write in
-    write-known (a .method) (a .exercised) (a .draw) (a .accounts .now) (a .shorts .now) _ (sym (ap namedMeans (c .before .before .before .before .before .before .before .before .before .named .given .1)) ∙ c .before .before .before .before .before .before .before .before .before .before .before .method-by .ensures) _ (c .before .before .before .before .before .before .before .terms-of .ensures) _ (a .text .now) _ (a .written .now) (sym (ap writingOf (c .before .n .given .1)) ∙ write .ensures .0) (write .ensures .1)
+    write-known (a .method) (a .exercised) (a .draw) (a .codes .now) (a .accounts .now) (a .shorts .now) _ (sym (ap namedMeans (c .before .before .before .before .before .before .before .before .before .named .given .1)) ∙ c .before .before .before .before .before .before .before .before .before .before .before .method-by .ensures) _ (c .before .before .before .before .before .before .before .terms-of .ensures) _ (a .text .now) _ (a .written .now) (sym (ap writingOf (c .before .n .given .1)) ∙ write .ensures .0) (write .ensures .1)
 
 same-length-2 : tie.Need-same-length-2
 same-length-2 c = search needs
 
 returns-3 : tie.Need-returns-3
-returns-3 c = let a = c .before .before .before .before .before .before .before .before .before .before .before .before .before .before .before .before .args in
+returns-3 c = let a = c .before .before .before .before .before .before .before .before .before .before .before .before .before .before .before .before .before .args in
     let write = c .before .before .before .before .before .before .write in
-    rw (c .number .ensures) (write-known (a .method) (a .exercised) (a .draw) (a .accounts .now) (a .shorts .now) _ (sym (ap namedMeans (c .before .before .before .before .before .before .before .before .before .before .named .given .1)) ∙ c .before .before .before .before .before .before .before .before .before .before .before .before .method-by .ensures) _ (c .before .before .before .before .before .before .before .before .terms-of .ensures) _ (a .text .now) _ (a .written .now) (sym (ap writingOf (c .before .before .refusal .given .1)) ∙ write .ensures .0) (write .ensures .1))
+    rw (c .number .ensures) (write-known (a .method) (a .exercised) (a .draw) (a .codes .now) (a .accounts .now) (a .shorts .now) _ (sym (ap namedMeans (c .before .before .before .before .before .before .before .before .before .before .named .given .1)) ∙ c .before .before .before .before .before .before .before .before .before .before .before .before .method-by .ensures) _ (c .before .before .before .before .before .before .before .before .terms-of .ensures) _ (a .text .now) _ (a .written .now) (sym (ap writingOf (c .before .before .refusal .given .1)) ∙ write .ensures .0) (write .ensures .1))
 
 pub dilbreth-write-spec : {M : Type 1} → statement M
 dilbreth-write-spec =

@@ -121,6 +121,12 @@ slice-aggregate-put-19 c = search needs
 put-requires-19 : tie.Need-put-requires-19
 put-requires-19 c κs = search needs
 
+slice-aggregate-put-20 : tie.Need-slice-aggregate-put-20
+slice-aggregate-put-20 c = search needs
+
+put-requires-20 : tie.Need-put-requires-20
+put-requires-20 c κs = search needs
+
 same-length : tie.Need-same-length
 same-length c = search needs
 
@@ -251,8 +257,15 @@ same-length-19 : tie.Need-same-length-19
 same-length-19 c = search needs
 
 returns-19 : tie.Need-returns-19
+unfolding explanation refusals ascii
+returns-19 c = let a = c .before .before .before .before .before .before .before .args in told (a .number) (a .line .now) (explanation 19) _ _ (ap explanation (c .before .before .before .before .before .match .keys19)) (c .before .before .put19 .ensures .0) (c .before .before .put19 .ensures .1)
+
+same-length-20 : tie.Need-same-length-20
+same-length-20 c = search needs
+
+returns-20 : tie.Need-returns-20
 unfolding noRefusal ascii
-returns-19 c = let a = c .before .before .before .before .before .before .before .args in told (a .number) (a .line .now) noRefusal _ _ (no-refusal _ (c .before .before .before .before .before .match .rest)) (c .before .before .put19 .ensures .0) (c .before .before .put19 .ensures .1)
+returns-20 c = let a = c .before .before .before .before .before .before .before .args in told (a .number) (a .line .now) noRefusal _ _ (no-refusal _ (c .before .before .before .before .before .match .rest)) (c .before .before .put20 .ensures .0) (c .before .before .put20 .ensures .1)
 
 pub explain-spec : {M : Type 1} → statement M
 explain-spec =
@@ -296,6 +309,8 @@ explain-spec =
     put-requires-18
     slice-aggregate-put-19
     put-requires-19
+    slice-aggregate-put-20
+    put-requires-20
     same-length
     returns
     same-length-2
@@ -333,4 +348,6 @@ explain-spec =
     same-length-18
     returns-18
     same-length-19
-    returns-19)
+    returns-19
+    same-length-20
+    returns-20)

@@ -4,25 +4,34 @@ use mathlib.Core.Path.{_≡_, refl, sym, ap, subst, _∙_}
 use borrow.Author.Needs.{needs}
 use lib.ListN.{drop}
 use Rattle.series_text.specs.Text.{MOST_LINES, readHead}
-use Rattle.series_text.specs.Parts.{termsMeans, positionsMean, positionsWithin}
-use Rattle.series_text.specs.declared.lines.TermsLine.{TermsLine}
-use Rattle.series_text.proofs.ReadLaws.{RowsRead, head-refused, rows-refused, accounts-short, shorts-short, read-all}
+use Rattle.series_text.specs.Parts.{headMeans, positionsMean, positionsWithin}
+use Rattle.series_text.specs.declared.lines.HeadLines.{HeadLines}
+use Rattle.series_text.proofs.ReadLaws.{PositionsRead, head-refused, positions-fault, codes-short, accounts-short, shorts-short, read-all}
 use Rattle.series_text.proofs.read.Statement.{statement}
 use Rattle.series_text.proofs.read.Tie as tie
 
--- what the calls on the way answered
-head : (c : tie.After-known-told2) → let s = c .before .before .before .before .before .before .before .args .text .now in
-    let line = c .before .head2 .given .0 in termsMeans s (TermsLine.Terms (line .0) (line .1 .0)) ≡ readHead s
-head c = ap (termsMeans _) (sym (c .before .head2 .given .1)) ∙ c .before .before .before .read-head .ensures
+-- the call, and lines 1 to 3 on the way to the positions
+abbrev start : tie.After-known-told2 → tie.Start
+start c = c .before .before .before .before .before .before .before .before
 
-positions : (c : tie.After-known-told4) → let lists = c .before .before .before .before .before .read-positions .last .1 .1 in
-    RowsRead (drop (c .before .before .before .before .before .before .before .before .before .head2 .given .0 .1 .0) (c .before .before .before .before .before .before .before .before .before .before .before .before .before .before .before .args .text .now)) (lists .0) (lists .1 .0) (c .before .n .given .0 .0)
-positions c = let p = c .before .before .before .before .before .read-positions in
+abbrev lines : tie.After-known-told4 → tie.After-known-told2
+lines c = c .before .before .before .before .before .before .before .before .before .before
+
+-- what the calls on the way answered
+head : (c : tie.After-known-told2) → let s = start c .args .text .now in
+    let line = c .before .head2 .given .0 in headMeans s (HeadLines.Head (line .0) (line .1 .0) (line .1 .1 .0)) ≡ readHead s
+head c = ap (headMeans _) (sym (c .before .head2 .given .1)) ∙ c .before .before .before .read-head .ensures
+
+positions : (c : tie.After-known-told4) → let lists = c .before .before .before .before .before .before .read-positions .last .1 .1 .1 in
+    let line = lines c .before .head2 .given .0 in
+    PositionsRead (record { terms = line .0; coded = line .1 .0 }) (drop (line .1 .1 .0) (start (lines c) .args .text .now)) (lists .0) (lists .1 .0) (lists .1 .1 .0) (c .before .n .given .0 .0)
+positions c = let p = c .before .before .before .before .before .before .read-positions in
     let few : c .before .n .given .0 .0 ≤ MOST_LINES = subst positionsWithin (c .before .n .given .1) (p .ensures .1) in
     record {
-      reads = ap (positionsMean _ _) (sym (c .before .n .given .1)) ∙ p .ensures .0;
-      in-accounts = rw (p .kept .1 .1 .0) few;
-      in-shorts = rw (p .kept .1 .1 .1 .0) few;
+      reads = ap (positionsMean _ _ _ _) (sym (c .before .n .given .1)) ∙ p .ensures .0 _;
+      in-codes = rw (p .kept .1 .1 .1 .0) few;
+      in-accounts = rw (p .kept .1 .1 .1 .1 .0) few;
+      in-shorts = rw (p .kept .1 .1 .1 .1 .1 .0) few;
     }
 
 read-head-requires : tie.Need-read-head-requires
@@ -40,6 +49,9 @@ slice-aggregate-read-positions c = refl
 slice-aggregate-read-positions-2 : tie.Need-slice-aggregate-read-positions-2
 slice-aggregate-read-positions-2 c = refl
 
+slice-aggregate-read-positions-3 : tie.Need-slice-aggregate-read-positions-3
+slice-aggregate-read-positions-3 c = refl
+
 read-positions-requires : tie.Need-read-positions-requires
 read-positions-requires c κs = search needs
 
@@ -50,42 +62,64 @@ enum-known-n : tie.Need-enum-known-n
 enum-known-n c = c .match2 .keys2
 
 returns : tie.Need-returns
-returns c = let a = c .before .before .before .before .before .before .before .before .before .before .before .before .before .before .before .before .args in
-    accounts-short (a .text .now) (a .accounts .now) (a .shorts .now) (head (c .before .before .before .before .before .before .before .before .before)) (positions (c .before)) (c .if1 .taken)
+returns c = let read = c .before in
+    let a = start (lines read) .args in
+    codes-short (a .text .now) (a .codes .now) (a .accounts .now) (a .shorts .now) (head (lines read)) (positions read) (c .if1 .taken)
 
 returns-2 : tie.Need-returns-2
-returns-2 c = let a = c .before .before .before .before .before .before .before .before .before .before .before .before .before .before .before .before .before .args in
-    shorts-short (a .text .now) (a .accounts .now) (a .shorts .now) (head (c .before .before .before .before .before .before .before .before .before .before)) (positions (c .before .before)) (c .if2 .taken)
-
-slice-aggregate-copy-first : tie.Need-slice-aggregate-copy-first
-slice-aggregate-copy-first c = sym (c .before .before .before .before .before .before .before .before .read-positions .kept .1 .1 .0)
-
-copy-first-requires : tie.Need-copy-first-requires
-copy-first-requires c κs = (positions (c .before .before .before .before) .in-accounts, c .before .before .before .if1 .left)
-
-slice-aggregate-copy-first-2 : tie.Need-slice-aggregate-copy-first-2
-slice-aggregate-copy-first-2 c = sym (c .before .before .before .before .before .before .before .before .before .before .before .before .before .read-positions .kept .1 .1 .1 .0)
-
-copy-first-requires-2 : tie.Need-copy-first-requires-2
-copy-first-requires-2 c κs = (positions (c .before .before .before .before .before .before .before .before .before) .in-shorts, c .before .before .before .before .before .before .before .if2 .left)
+returns-2 c = let read = c .before .before in
+    let a = start (lines read) .args in
+    accounts-short (a .text .now) (a .codes .now) (a .accounts .now) (a .shorts .now) (head (lines read)) (positions read) (c .if2 .taken)
 
 returns-3 : tie.Need-returns-3
-returns-3 c = let a = c .before .before .before .before .before .before .before .args in
-    head-refused (a .text .now) (a .accounts .now) (a .shorts .now) (ap (termsMeans _) (sym (c .before .head .given .1)) ∙ c .before .before .before .read-head .ensures)
+returns-3 c = let read = c .before .before .before in
+    let a = start (lines read) .args in
+    shorts-short (a .text .now) (a .codes .now) (a .accounts .now) (a .shorts .now) (head (lines read)) (positions read) (c .if3 .taken)
+
+slice-aggregate-copy-first : tie.Need-slice-aggregate-copy-first
+slice-aggregate-copy-first c = search needs
+
+copy-first-requires : tie.Need-copy-first-requires
+copy-first-requires c κs = let fit = c .before .before in (positions (fit .before .before .before) .in-codes, fit .before .before .if1 .left)
+
+slice-aggregate-copy-first-2 : tie.Need-slice-aggregate-copy-first-2
+slice-aggregate-copy-first-2 c = search needs
+
+copy-first-requires-2 : tie.Need-copy-first-requires-2
+copy-first-requires-2 c κs = let fit = c .before .before .before .before .before .before .before in (positions (fit .before .before .before) .in-accounts, fit .before .if2 .left)
+
+slice-aggregate-copy-first-3 : tie.Need-slice-aggregate-copy-first-3
+slice-aggregate-copy-first-3 c = search needs
+
+copy-first-requires-3 : tie.Need-copy-first-requires-3
+copy-first-requires-3 c κs = let fit = c .before .before .before .before .before .before .before .before .before .before .before .before in (positions (fit .before .before .before) .in-shorts, fit .if3 .left)
 
 returns-4 : tie.Need-returns-4
-returns-4 c = let a = c .before .before .before .before .before .before .before .before .before .before .before .before .before .before .before .args in
-    rows-refused (a .text .now) (a .accounts .now) (a .shorts .now) (head (c .before .before .before .before .before .before .before .before)) (ap (positionsMean _ _) (sym (c .before .refusal .given .1)) ∙ c .before .before .before .before .before .read-positions .ensures .0)
-
-same-length : tie.Need-same-length
-same-length c = c .before .before .before .before .before .before .before .copy-first .kept .1 .1 .0
-
-same-length-2 : tie.Need-same-length-2
-same-length-2 c = c .before .before .copy-first2 .kept .1 .1 .0
+returns-4 c = let a = c .before .before .before .before .before .before .before .before .args in
+    head-refused (a .text .now) (a .codes .now) (a .accounts .now) (a .shorts .now) (ap (headMeans _) (sym (c .before .head .given .1)) ∙ c .before .before .before .read-head .ensures)
 
 returns-5 : tie.Need-returns-5
-returns-5 c = let a = c .before .before .before .before .before .before .before .before .before .before .before .before .before .before .before .before .before .before .before .before .before .before .before .before .before .before .before .args in
-    read-all (a .text .now) (a .accounts .now) (a .shorts .now) (head (c .before .before .before .before .before .before .before .before .before .before .before .before .before .before .before .before .before .before .before .before)) (positions (c .before .before .before .before .before .before .before .before .before .before .before .before)) (c .before .before .before .before .before .before .before .before .before .before .before .if1 .left) (c .before .before .before .before .before .before .before .before .before .before .if2 .left) (c .before .before .before .before .before .before .before .copy-first .ensures) (c .before .before .copy-first2 .ensures)
+returns-5 c = let call = c .before .before .before .before .before .before in
+    let a = start (call .before .before .before .before) .args in
+    positions-fault (a .text .now) (a .codes .now) (a .accounts .now) (a .shorts .now) (head (call .before .before .before .before)) (ap (positionsMean _ _ _ _) (sym (c .before .refusal .given .1)) ∙ call .read-positions .ensures .0 _)
+
+same-length : tie.Need-same-length
+same-length c = search needs
+
+same-length-2 : tie.Need-same-length-2
+same-length-2 c = search needs
+
+same-length-3 : tie.Need-same-length-3
+same-length-3 c = search needs
+
+returns-6 : tie.Need-returns-6
+returns-6 c = let third = c .before .before in
+    let second = third .before .before .before .before .before in
+    let first = second .before .before .before .before .before in
+    let fit = first .before .before .before in
+    let read = fit .before .before .before in
+    let a = start (lines read) .args in
+    read-all (a .text .now) (a .codes .now) (a .accounts .now) (a .shorts .now) (head (lines read)) (positions read) (fit .before .before .if1 .left) (fit .before .if2 .left) (fit .if3 .left) (first .copy-first .ensures) (second .copy-first2 .ensures) (third .copy-first3 .ensures)
 
 pub read-spec : {M : Type 1} → statement M
 read-spec =
@@ -96,17 +130,22 @@ read-spec =
     enum-known-head-2
     slice-aggregate-read-positions
     slice-aggregate-read-positions-2
+    slice-aggregate-read-positions-3
     read-positions-requires
     enum-known-refusal
     enum-known-n
     returns
     returns-2
+    returns-3
     slice-aggregate-copy-first
     copy-first-requires
     slice-aggregate-copy-first-2
     copy-first-requires-2
-    returns-3
+    slice-aggregate-copy-first-3
+    copy-first-requires-3
     returns-4
+    returns-5
     same-length
     same-length-2
-    returns-5)
+    same-length-3
+    returns-6)

@@ -12,17 +12,23 @@ returns c = search needs
 returns-2 : tie.Need-returns-2
 returns-2 c = search needs
 
+returns-3 : tie.Need-returns-3
+returns-3 c = search needs
+
 slice-aggregate-rewrite : tie.Need-slice-aggregate-rewrite
-slice-aggregate-rewrite c = let a = c .before .before .before .before .before .args in sym (length-take-le (a .n) (a .accounts .now) (omega arith))
+slice-aggregate-rewrite c = let a = c .before .before .before .before .before .before .before .args in sym (length-take-le (a .n) (a .codes .now) (omega arith))
 
 slice-aggregate-rewrite-2 : tie.Need-slice-aggregate-rewrite-2
-slice-aggregate-rewrite-2 c = let a = c .before .before .before .before .before .before .args in sym (length-take-le (a .n) (a .shorts .now) (omega arith))
+slice-aggregate-rewrite-2 c = let a = c .before .before .before .before .before .before .before .before .args in sym (length-take-le (a .n) (a .accounts .now) (omega arith))
+
+slice-aggregate-rewrite-3 : tie.Need-slice-aggregate-rewrite-3
+slice-aggregate-rewrite-3 c = let a = c .before .before .before .before .before .before .before .before .before .args in sym (length-take-le (a .n) (a .shorts .now) (omega arith))
 
 rewrite-requires : tie.Need-rewrite-requires
 rewrite-requires c κs = search needs
 
-returns-3 : tie.Need-returns-3
-returns-3 c = search needs
+returns-4 : tie.Need-returns-4
+returns-4 c = search needs
 
 pub rewrite-first-spec : {M : Type 1} → statement M
 rewrite-first-spec =
@@ -30,7 +36,9 @@ rewrite-first-spec =
     (tie.spec
     returns
     returns-2
+    returns-3
     slice-aggregate-rewrite
     slice-aggregate-rewrite-2
+    slice-aggregate-rewrite-3
     rewrite-requires
-    returns-3)
+    returns-4)

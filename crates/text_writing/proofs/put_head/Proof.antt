@@ -4,7 +4,7 @@ use mathlib.Core.Path.{_∙_}
 use mathlib.Core.List.{[], _∷_}
 use native.Mathlib.Omega.{arith}
 use lib.ListN.{length, length-set}
-use Rattle.series_text.specs.Names.{namesLine}
+use Rattle.series_text.specs.Names.{namesLine, headingOf}
 use Rattle.series_text.specs.Rows.{writeRow}
 use Rattle.series_text.specs.declared.names.Heading.{Heading}
 use Rattle.series_text.proofs.LengthLaws.{length-head, head-room}
@@ -14,8 +14,8 @@ use Rattle.text_writing.proofs.put_head.Statement.{statement}
 use Rattle.text_writing.proofs.put_head.Tie as tie
 
 -- there is room for the three lines
-room : (s : tie.Start) → length (namesLine Heading.Terms) + (2 + length (writeRow (s .args .terms .exercised .0 ∷ s .args .terms .draw ∷ []))) + length (namesLine Heading.Positions) ≤ length (s .args .head .now)
-room s = omega (arith, length-head (s .args .terms), head-room (s .args .terms), s .pre)
+room : (s : tie.Start) → length (namesLine Heading.Terms) + (2 + length (writeRow (s .args .terms .exercised .0 ∷ s .args .terms .draw ∷ []))) + length (namesLine (headingOf (s .args .coded))) ≤ length (s .args .head .now)
+room s = omega (arith, length-head (s .args .coded) (s .args .terms), head-room (s .args .coded) (s .args .terms), s .pre)
 
 put-names-requires : tie.Need-put-names-requires
 put-names-requires c κs = omega (arith, room (c .before .before))
@@ -41,17 +41,17 @@ slice-aggregate-put-row c = search needs
 put-row-requires : tie.Need-put-row-requires
 put-row-requires c κs = rw (length-set, length-set) (omega (arith, room (c .before .before .before .before .before .before .before .before .before), c .before .before .before .before .before .before .put-names .ensures .after, c .before .before .before .before .before .before .put-names .kept .0))
 
+heading-of-requires : tie.Need-heading-of-requires
+heading-of-requires c κs = search needs
+
 put-names-requires-2 : tie.Need-put-names-requires-2
-put-names-requires-2 c κs = let e = simp length-set at (c .before .before .before .put-row .kept .0) in
-    omega (arith, room (c .before .before .before .before .before .before .before .before .before .before .before .before .before), c .before .before .before .before .before .before .before .before .before .before .put-names .ensures .after, c .before .before .before .before .before .before .before .before .before .before .put-names .kept .0, c .before .before .before .put-row .ensures .after)
+put-names-requires-2 c κs = let e = simp length-set at (c .before .before .before .before .put-row .kept .0) in rw (c .heading-of .ensures) (omega (arith, room (c .before .before .before .before .before .before .before .before .before .before .before .before .before .before), c .before .before .before .before .before .before .before .before .before .before .before .put-names .ensures .after, c .before .before .before .before .before .before .before .before .before .before .before .put-names .kept .0, c .before .before .before .before .put-row .ensures .after))
 
 same-length : tie.Need-same-length
-same-length c = c .before .before .put-names2 .kept .0 ∙ c .before .before .before .before .before .before .put-row .kept .0 ∙ simp length-set (c .before .before .before .before .before .before .before .before .before .before .before .before .before .put-names .kept .0)
+same-length c = c .before .before .put-names2 .kept .0 ∙ c .before .before .before .before .before .before .before .put-row .kept .0 ∙ simp length-set (c .before .before .before .before .before .before .before .before .before .before .before .before .before .before .put-names .kept .0)
 
 returns : tie.Need-returns
-returns c = let s = c .before .before .before .before .before .before .before .before .before .before .before .before .before .before .before .before in
-    let a = s .args in
-    put-head (a .terms) (a .head .now) _ _ _ _ _ _ (omega (arith, room s, length-head (a .terms))) (c .before .before .before .before .before .before .before .before .before .before .before .before .before .put-names .kept .0) (c .before .before .before .before .before .before .before .before .before .before .before .before .before .put-names .ensures) (rw (c .before .before .before .before .before .before .before .before .before .before .letter-of .ensures) at (c .before .before .before .before .before .before .put-row .ensures)) (c .before .before .put-names2 .ensures)
+returns c = let s = c .before .before .before .before .before .before .before .before .before .before .before .before .before .before .before .before .before in let a = s .args in put-head (a .coded) (a .terms) (a .head .now) _ _ _ _ _ _ (omega (arith, room s, length-head (a .coded) (a .terms))) (c .before .before .before .before .before .before .before .before .before .before .before .before .before .before .put-names .kept .0) (c .before .before .before .before .before .before .before .before .before .before .before .before .before .before .put-names .ensures) (rw (c .before .before .before .before .before .before .before .before .before .before .before .letter-of .ensures) at (c .before .before .before .before .before .before .before .put-row .ensures)) (rw (c .before .before .before .heading-of .ensures) at (c .before .before .put-names2 .ensures))
 
 pub put-head-spec : {M : Type 1} → statement M
 put-head-spec =
@@ -65,6 +65,7 @@ put-head-spec =
     add-put-row
     slice-aggregate-put-row
     put-row-requires
+    heading-of-requires
     put-names-requires-2
     same-length
     returns)

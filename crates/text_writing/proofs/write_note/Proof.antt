@@ -3,8 +3,9 @@ use mathlib.Core.Path.{refl, ap}
 use mathlib.Core.List.{[], _∷_}
 use native.Mathlib.Omega.{arith}
 use lib.ListN.{length}
-use Rattle.series_text.specs.Calls.{evenly, lineCount, noteInto}
-use Rattle.text_writing.proofs.WriteLaws.{lines-short, lines-put, one-row}
+use Rattle.series_text.specs.Calls.{noteInto}
+use Rattle.text_writing.proofs.PutLaws.{put-append}
+use Rattle.text_writing.proofs.WriteLaws.{lines-short, lines-put, one-row, note-measured}
 use borrow.Author.Needs.{needs}
 use Rattle.text_writing.proofs.write_note.Statement.{statement}
 use Rattle.text_writing.proofs.write_note.Tie as tie
@@ -19,9 +20,8 @@ add-if1 : tie.Need-add-if1
 add-if1 c = search needs
 
 returns : tie.Need-returns
-unfolding noteInto evenly lineCount
-returns c = let a = c .before .before .before .before .before .args in
-    lines-short (a .names .now) ((a .number ∷ []) ∷ []) (a .text .now) refl (omega arith) (omega (arith, ap length (one-row (a .number))))
+unfolding noteInto
+returns c = let a = c .before .before .before .before .before .args in lines-short (a .names .now) ((a .number ∷ []) ∷ []) _ (note-measured (a .names .now) (a .number) _ (omega (arith, c .before .row-length .ensures .0))) (a .text .now) (c .if1 .taken)
 
 put-line-requires : tie.Need-put-line-requires
 put-line-requires c κs = search needs
@@ -36,9 +36,8 @@ same-length : tie.Need-same-length
 same-length c = search needs
 
 returns-2 : tie.Need-returns-2
-unfolding noteInto evenly lineCount
-returns-2 c = let a = c .before .before .before .before .before .before .before .before .before .before .before .before .before .before .args in
-    lines-put (a .names .now) ((a .number ∷ []) ∷ []) (a .text .now) refl (omega arith) (omega (arith, ap length (one-row (a .number)))) _ _ _ _ (c .before .before .before .before .before .before .before .put-line .ensures) (rw (one-row (a .number)) (c .before .before .put-row .ensures))
+unfolding noteInto
+returns-2 c = let a = c .before .before .before .before .before .before .before .before .before .before .before .before .before .before .args in lines-put (a .names .now) ((a .number ∷ []) ∷ []) _ (note-measured (a .names .now) (a .number) _ (omega (arith, c .before .before .before .before .before .before .before .before .before .before .row-length .ensures .0))) (a .text .now) (c .before .before .before .before .before .before .before .before .before .if1 .left) _ _ (put-append (a .names .now) _ (a .text .now) 0 _ _ _ _ (omega (arith, c .before .before .before .before .before .before .before .before .before .if1 .left)) (c .before .before .before .before .before .before .before .put-line .ensures) (rw (one-row (a .number)) (c .before .before .put-row .ensures)))
 
 pub write-note-spec : {M : Type 1} → statement M
 write-note-spec =

@@ -45,23 +45,29 @@ enum-known-refusal c = search needs
 enum-known-terms : tie.Need-enum-known-terms
 enum-known-terms c = search needs
 
-read-names-requires-2 : tie.Need-read-names-requires-2
-read-names-requires-2 c κs = search needs
+read-columns-requires : tie.Need-read-columns-requires
+read-columns-requires c κs = search needs
 
-enum-known-lines : tie.Need-enum-known-lines
-enum-known-lines c = search needs
+enum-known-heading : tie.Need-enum-known-heading
+enum-known-heading c = search needs
 
 enum-told-2 : tie.Need-enum-told-2
 enum-told-2 c = search needs
 
 returns-3 : tie.Need-returns-3
-returns-3 c = head-columns _ (omega arith) (names (c .before .before .before .before .before .before .before)) (terms (c .before .before .before)) (ap (namesMean _) (sym (c .enum-told2 .given .1)) ∙ c .before .before .read-names2 .ensures)
+returns-3 c = head-columns _ (omega arith) (names (c .before .before .before .before .before .before .before)) (terms (c .before .before .before)) (ap (namesMean _) (sym (c .enum-told2 .given .1)) ∙ c .before .before .read-columns .ensures)
+
+is-coded-requires : tie.Need-is-coded-requires
+is-coded-requires c κs = search needs
 
 returns-4 : tie.Need-returns-4
 returns-4 c = head-terms _ (omega arith) (names (c .before .before .before .before)) (ap (termsMeans _) (sym (c .before .refusal .given .1)) ∙ c .before .before .before .read-terms .ensures)
 
 returns-5 : tie.Need-returns-5
-returns-5 c = head-all _ (omega arith) (names (c .before .before .before .before .before .before .before .before)) (terms (c .before .before .before .before)) (ap (namesMean _) (sym (c .before .lines .given .1)) ∙ c .before .before .before .read-names2 .ensures)
+returns-5 c = let line3 = c .before .before in
+    let line1 = line3 .before .before .before .before .before .before .before in
+    rw (c .is-coded .ensures)
+    (head-all _ (line1 .before .before .before .before .if1 .left) (names line1) (terms (line3 .before .before .before)) (ap (namesMean _) (sym (line3 .heading .given .1)) ∙ line3 .before .before .read-columns .ensures))
 
 pub read-head-spec : {M : Type 1} → statement M
 read-head-spec =
@@ -75,9 +81,10 @@ read-head-spec =
     read-terms-requires
     enum-known-refusal
     enum-known-terms
-    read-names-requires-2
-    enum-known-lines
+    read-columns-requires
+    enum-known-heading
     enum-told-2
     returns-3
+    is-coded-requires
     returns-4
     returns-5)

@@ -1,35 +1,31 @@
--- `lines::read_positions` meets its contract. The loop's invariant: the rows read stand first in the two lists, and the text goes on at the cursor.
+-- `lines::read_positions` meets its contract. The loop's invariant: the rows read stand first in the three lists, and the text goes on at the cursor.
 use Prim.Native.Nat.{_≤_, _-_}
 use mathlib.Core.Path.{_≡_, refl, sym, ap, _∙_}
 use mathlib.Core.List.{[], _∷_}
 use native.Mathlib.Omega.{arith}
 use borrow.Author.Needs.{needs}
-use lib.ListN.{length, getD, take, drop, length-set}
+use lib.ListN.{length, take, length-set}
+use lib.Seq.{length-take-le}
 use Rattle.series.specs.Sums.{listed}
-use Rattle.series_text.specs.Rows.{readRow, rowsOf}
+use Rattle.series_text.specs.Rows.{rowsOf}
 use Rattle.series_text.specs.Text.{MOST_LINES}
 use Rattle.series_text.specs.Parts.{rowMeans}
-use Rattle.series_text.proofs.LineLaws.{RowsTo, rows-start, rows-end, rows-over, rows-malformed, rows-more}
+use Rattle.series_text.proofs.LineLaws.{RowsTo, rows-start, rows-end, rows-over, rows-malformed, rows-more, positions-refused, positions-all}
 use Rattle.series_text.proofs.ColumnLaws.{rows-set}
 use Rattle.series_text.proofs.lines.read_positions.Statement.{statement}
 use Rattle.series_text.proofs.lines.read_positions.Tie as tie
 
 abbrev Inv-loop : tie.InvT-loop
-Inv-loop text from accounts₀ shorts₀ row₀ at₀ n₀ accounts shorts row at n =
-    (n ≤ MOST_LINES) × (length accounts ≡ length accounts₀) × (length shorts ≡ length shorts₀) × (length row ≡ 2)
-    × RowsTo MOST_LINES 2 text from (rowsOf (take n accounts ∷ take n shorts ∷ [])) at n
+Inv-loop text from coded codes₀ accounts₀ shorts₀ row₀ at₀ n₀ codes accounts shorts row at n =
+    (n ≤ MOST_LINES) × (length codes ≡ length codes₀) × (length accounts ≡ length accounts₀) × (length shorts ≡ length shorts₀) × (length row ≡ 3)
+    × RowsTo MOST_LINES coded text from (rowsOf (take n codes ∷ take n accounts ∷ take n shorts ∷ [])) at n
 
 abbrev μ-loop : tie.MeasureT-loop
-μ-loop text from accounts₀ shorts₀ row₀ at₀ n₀ accounts shorts row at n = MOST_LINES - n
-
--- what `read_row` answered of a row of two
-row-read : (c : tie.After-read-row Inv-loop μ-loop) → let s = c .before .before .before .before .before .before .before .before .args .text .now in
-    rowMeans s (c .read-row .last .1 .1 .0) (c .read-row .result) ≡ readRow 2 (drop (c .before .before .before .before .loop .at) s)
-row-read c = rw (c .before .before .before .before .loop .inv .3) at (c .read-row .ensures)
+μ-loop text from coded codes₀ accounts₀ shorts₀ row₀ at₀ n₀ codes accounts shorts row at n = MOST_LINES - n
 
 loop-holds : tie.Need-loop-holds Inv-loop μ-loop
 unfolding rowsOf listed
-loop-holds c = (omega arith, refl, refl, refl, rows-start)
+loop-holds c = (omega arith, refl, refl, refl, refl, rows-start)
 
 same-length : tie.Need-same-length Inv-loop μ-loop
 same-length c = omega arith
@@ -37,14 +33,17 @@ same-length c = omega arith
 same-length-2 : tie.Need-same-length-2 Inv-loop μ-loop
 same-length-2 c = omega arith
 
+same-length-3 : tie.Need-same-length-3 Inv-loop μ-loop
+same-length-3 c = omega arith
+
 returns : tie.Need-returns Inv-loop μ-loop
-returns c = (rows-over (c .before .before .loop .inv .4) (omega arith) (omega arith), tt)
+returns c = (λ t. positions-refused _ t _ (rows-over (c .before .before .loop .inv .5) (omega arith) (omega arith)), tt)
 
-slice-aggregate-read-row : tie.Need-slice-aggregate-read-row Inv-loop μ-loop
-slice-aggregate-read-row c = omega arith
+slice-aggregate-read-position : tie.Need-slice-aggregate-read-position Inv-loop μ-loop
+slice-aggregate-read-position c = omega arith
 
-read-row-requires : tie.Need-read-row-requires Inv-loop μ-loop
-read-row-requires c κs = search needs
+read-position-requires : tie.Need-read-position-requires Inv-loop μ-loop
+read-position-requires c κs = omega arith
 
 enum-known-next : tie.Need-enum-known-next Inv-loop μ-loop
 enum-known-next c = search needs
@@ -52,17 +51,30 @@ enum-known-next c = search needs
 enum-told : tie.Need-enum-told Inv-loop μ-loop
 enum-told c = search needs
 
-same-length-3 : tie.Need-same-length-3 Inv-loop μ-loop
-same-length-3 c = omega arith
-
 same-length-4 : tie.Need-same-length-4 Inv-loop μ-loop
 same-length-4 c = omega arith
 
+same-length-5 : tie.Need-same-length-5 Inv-loop μ-loop
+same-length-5 c = omega arith
+
+same-length-6 : tie.Need-same-length-6 Inv-loop μ-loop
+same-length-6 c = omega arith
+
 returns-2 : tie.Need-returns-2 Inv-loop μ-loop
 returns-2 c = (
-  rows-malformed (c .before .before .before .before .before .before .before .loop .inv .4) (omega arith) (omega arith) (ap (rowMeans _ _) (sym (c .enum-told .given .1)) ∙ row-read (c .before .before .before)),
+  λ t. positions-refused _ t _
+      (rows-malformed (c .before .before .before .before .before .before .before .loop .inv .5) (omega arith) (omega arith) (ap (rowMeans _ _) (sym (c .enum-told .given .1)) ∙ c .before .before .before .read-position .ensures)),
   tt,
 )
+
+array-read-codes : tie.Need-array-read-codes Inv-loop μ-loop
+array-read-codes c = search needs
+
+mul-codes : tie.Need-mul-codes Inv-loop μ-loop
+mul-codes c = omega arith
+
+slice-write-codes : tie.Need-slice-write-codes Inv-loop μ-loop
+slice-write-codes c = omega arith
 
 array-read-accounts : tie.Need-array-read-accounts Inv-loop μ-loop
 array-read-accounts c = search needs
@@ -90,24 +102,33 @@ loop-less c = omega arith
 
 loop-again : tie.Need-loop-again Inv-loop μ-loop
 loop-again c = let l = c .before .before .before .before .before .before .before .before .loop in
-    let row = c .before .before .before .before .read-row .last .1 .1 .0 in
-    let two : length row ≡ 2 = omega (arith, c .before .before .before .before .read-row .kept .1 .1 .0) in
-    let more = rows-more (l .inv .4) (omega arith) (omega arith) {next = c .before .next .given .0 .0} (ap (rowMeans _ _) (sym (c .before .next .given .1)) ∙ row-read (c .before .before .before .before)) in (
+    let read = c .before .before .before .before .read-position in
+    let row = read .last .1 .1 .1 .0 in
+    let three : length row ≡ 3 = omega (arith, read .kept .1 .1 .1 .0) in
+    let more = rows-more (l .inv .5) (omega arith) (omega arith) {next = c .before .next .given .0 .0} (ap (rowMeans _ _) (sym (c .before .next .given .1)) ∙ read .ensures) in (
       omega arith,
-      length-set (l .accounts) (l .n) (getD row 0 0) ∙ l .inv .1,
-      length-set (l .shorts) (l .n) (getD row 1 0) ∙ l .inv .2,
-      two,
-      rw (rows-set (l .accounts) (l .shorts) (l .n) row (omega arith) (omega arith) two) more,
+      length-set (l .codes) (l .n) _ ∙ l .inv .1,
+      length-set (l .accounts) (l .n) _ ∙ l .inv .2,
+      length-set (l .shorts) (l .n) _ ∙ l .inv .3,
+      three,
+      rw (← rows-set (l .codes) (l .accounts) (l .shorts) (l .n) row (omega arith) (omega arith) (omega arith) three) at more,
     )
 
-same-length-5 : tie.Need-same-length-5 Inv-loop μ-loop
-same-length-5 c = omega arith
+same-length-7 : tie.Need-same-length-7 Inv-loop μ-loop
+same-length-7 c = omega arith
 
-same-length-6 : tie.Need-same-length-6 Inv-loop μ-loop
-same-length-6 c = omega arith
+same-length-8 : tie.Need-same-length-8 Inv-loop μ-loop
+same-length-8 c = omega arith
+
+same-length-9 : tie.Need-same-length-9 Inv-loop μ-loop
+same-length-9 c = omega arith
 
 returns-3 : tie.Need-returns-3 Inv-loop μ-loop
-returns-3 c = (rows-end (c .before .loop .inv .4) (omega arith), c .before .loop .inv .0)
+returns-3 c = let l = c .before .loop in
+    let n = length-take-le (l .n) (l .codes) (omega arith) in
+    let accounts = length-take-le (l .n) (l .accounts) (omega arith) in
+    let shorts = length-take-le (l .n) (l .shorts) (omega arith) in
+    (λ t. positions-all _ t _ (accounts ∙ sym n) (shorts ∙ sym n) (rows-end (l .inv .5) (omega arith)), l .inv .0)
 
 pub read-positions-spec : {M : Type 1} → statement M
 read-positions-spec =
@@ -118,14 +139,19 @@ read-positions-spec =
     loop-holds
     same-length
     same-length-2
+    same-length-3
     returns
-    slice-aggregate-read-row
-    read-row-requires
+    slice-aggregate-read-position
+    read-position-requires
     enum-known-next
     enum-told
-    same-length-3
     same-length-4
+    same-length-5
+    same-length-6
     returns-2
+    array-read-codes
+    mul-codes
+    slice-write-codes
     array-read-accounts
     mul-accounts
     slice-write-accounts
@@ -135,6 +161,7 @@ read-positions-spec =
     add-n
     loop-less
     loop-again
-    same-length-5
-    same-length-6
+    same-length-7
+    same-length-8
+    same-length-9
     returns-3)

@@ -1,11 +1,8 @@
 -- `names::read_names` meets its contract: the one known heading, or none.
 use borrow.Author.Needs.{needs}
-use mathlib.Core.Path.{_≡_, sym, ap, _∙_}
-use lib.ListN.{drop}
-use Rattle.series.specs.Ascii.{ascii}
-use Rattle.series_text.specs.Names.{namesLine, afterLine, headingOr}
+use mathlib.Core.Path.{sym, ap, _∙_}
+use Rattle.series_text.specs.Names.{headingOr}
 use Rattle.series_text.specs.Parts.{lineMeans}
-use Rattle.series_text.specs.declared.names.Heading.{Heading}
 use Rattle.series_text.proofs.LineLaws.{names-read}
 use Rattle.series_text.proofs.names.read_names.Statement.{statement}
 use Rattle.series_text.proofs.names.read_names.Tie as tie

@@ -23,6 +23,15 @@ slice-aggregate-skip-line-2 c = search needs
 skip-line-requires-2 : tie.Need-skip-line-requires-2
 skip-line-requires-2 c κs = search needs
 
+enum-told-3 : tie.Need-enum-told-3
+enum-told-3 c = search needs
+
+slice-aggregate-skip-line-3 : tie.Need-slice-aggregate-skip-line-3
+slice-aggregate-skip-line-3 c = search needs
+
+skip-line-requires-3 : tie.Need-skip-line-requires-3
+skip-line-requires-3 c κs = search needs
+
 returns : tie.Need-returns
 unfolding namesLine ascii
 returns c = rw (c .before .before .enum-told .given .1) (c .skip-line .ensures)
@@ -30,6 +39,10 @@ returns c = rw (c .before .before .enum-told .given .1) (c .skip-line .ensures)
 returns-2 : tie.Need-returns-2
 unfolding namesLine ascii
 returns-2 c = rw (c .before .before .enum-told2 .given .1) (c .skip-line2 .ensures)
+
+returns-3 : tie.Need-returns-3
+unfolding namesLine ascii
+returns-3 c = rw (c .before .before .enum-told3 .given .1) (c .skip-line3 .ensures)
 
 pub skip-heading-spec : {M : Type 1} → statement M
 skip-heading-spec =
@@ -41,5 +54,9 @@ skip-heading-spec =
     enum-told-2
     slice-aggregate-skip-line-2
     skip-line-requires-2
+    enum-told-3
+    slice-aggregate-skip-line-3
+    skip-line-requires-3
     returns
-    returns-2)
+    returns-2
+    returns-3)

@@ -25,6 +25,16 @@ put-line-requires-2 : tie.Need-put-line-requires-2
 unfolding namesLine ascii
 put-line-requires-2 c κs = rw (c .before .before .enum-told2 .given .1) at (c .before .before .before .before .before .pre)
 
+enum-told-3 : tie.Need-enum-told-3
+enum-told-3 c = search needs
+
+slice-aggregate-put-line-3 : tie.Need-slice-aggregate-put-line-3
+slice-aggregate-put-line-3 c = search needs
+
+put-line-requires-3 : tie.Need-put-line-requires-3
+unfolding namesLine ascii
+put-line-requires-3 c κs = rw (c .before .before .enum-told3 .given .1) at (c .before .before .before .before .before .pre)
+
 same-length : tie.Need-same-length
 same-length c = search needs
 
@@ -39,6 +49,13 @@ returns-2 : tie.Need-returns-2
 unfolding namesLine ascii
 returns-2 c = rw (c .before .before .before .before .before .enum-told2 .given .1) (c .before .before .put-line2 .ensures)
 
+same-length-3 : tie.Need-same-length-3
+same-length-3 c = search needs
+
+returns-3 : tie.Need-returns-3
+unfolding namesLine ascii
+returns-3 c = rw (c .before .before .before .before .before .enum-told3 .given .1) (c .before .before .put-line3 .ensures)
+
 pub put-names-spec : {M : Type 1} → statement M
 put-names-spec =
     tie.close
@@ -49,7 +66,12 @@ put-names-spec =
     enum-told-2
     slice-aggregate-put-line-2
     put-line-requires-2
+    enum-told-3
+    slice-aggregate-put-line-3
+    put-line-requires-3
     same-length
     returns
     same-length-2
-    returns-2)
+    returns-2
+    same-length-3
+    returns-3)

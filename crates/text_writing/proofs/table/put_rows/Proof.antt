@@ -1,55 +1,76 @@
 -- `table::put_rows` meets its contract. The loop's invariant: the lines of the first `i` rows are put.
-use Prim.Native.Nat.{ℕ, _+_, _-_, _≤_}
+use Prim.Native.Nat.{ℕ, _+_, _-_, _≤_, _<_}
 use mathlib.Core.Path.{_≡_, refl, ap, _∙_}
-use mathlib.Core.List.{List, [], _∷_}
+use mathlib.Core.List.{List}
 use native.Mathlib.Omega.{arith}
 use lib.ListN.{length}
+use borrow.Author.Needs.{needs}
 use Rattle.series.specs.Sums.{listed}
 use Rattle.series_text.specs.Rows.{writeRow, writeRows, rowOf}
+use Rattle.series_text.specs.Text.{columnsBy}
 use Rattle.text_writing.specs.Parts.{Put}
 use Rattle.text_writing.proofs.PutLaws.{put-nil, put-append}
-use Rattle.series_text.proofs.LengthLaws.{linesOf, lines-next, lines-next-length, lines-all, lines-within}
+use Rattle.text_writing.proofs.WriteLaws.{row-written, first-few, lines-by}
+use Rattle.series_text.proofs.LengthLaws.{linesOf, lines-next, lines-next-length, lines-within}
 use Rattle.text_writing.proofs.table.put_rows.Statement.{statement}
 use Rattle.text_writing.proofs.table.put_rows.Tie as tie
 
 abbrev Inv-loop : tie.InvT-loop
-Inv-loop text₀ from accounts counts at₀ i₀ text at i = (i ≤ length accounts) × Put (linesOf (rowOf (accounts ∷ counts ∷ [])) i) text₀ from text at × (length text ≡ length text₀)
+Inv-loop text₀ from coded codes accounts counts first at₀ i₀ text at i = (i ≤ length accounts) × Put (linesOf (rowOf (columnsBy coded codes accounts counts)) i) text₀ from text at × (length text ≡ length text₀)
 
 abbrev μ-loop : tie.MeasureT-loop
-μ-loop text₀ from accounts counts at₀ i₀ text at i = length accounts - i
+μ-loop text₀ from coded codes accounts counts first at₀ i₀ text at i = length accounts - i
 
--- row i of the two lists
+-- row i of the columns
 abbrev rows : tie.Start Inv-loop μ-loop → ℕ → List ℕ
-rows c = rowOf (c .args .accounts .now ∷ c .args .counts .now ∷ [])
+rows s = rowOf (columnsBy (s .args .coded) (s .args .codes .now) (s .args .accounts .now) (s .args .counts .now))
 
 -- there is room for one more line
-room : (c : tie.In-loop Inv-loop μ-loop) → c .before .before .before .before .before .args .from + length (linesOf (rows (c .before .before .before .before .before)) (c .before .loop .i + 1)) ≤ length (c .before .before .before .before .before .args .text .now)
-room c =
-    let s = c .before .before .before .before .before in
-    let all = ap length (lines-all (s .args .accounts .now) (s .args .counts .now ∷ []) _ refl) in
-    omega (arith, lines-within (rows s) (c .before .loop .i + 1) (length (s .args .accounts .now)) (omega arith), s .pre .1)
+room : (s : tie.Start Inv-loop μ-loop) (i : ℕ) → i < length (s .args .accounts .now) → s .args .from + length (linesOf (rows s) (i + 1)) ≤ length (s .args .text .now)
+room s i lt =
+    let a = s .args in
+    let all = ap length (lines-by (a .coded) (a .codes .now) (a .accounts .now) (a .counts .now) _ (s .pre .0 .coded) refl) in
+    omega (arith, lines-within (rows s) (i + 1) (length (a .accounts .now)) (omega arith), s .pre .1)
+
+first-written-requires : tie.Need-first-written-requires Inv-loop μ-loop
+first-written-requires c κs = search needs
 
 loop-holds : tie.Need-loop-holds Inv-loop μ-loop
 unfolding writeRows listed
-loop-holds c = let a = c .before .before .before .args in (omega arith, put-nil (a .text .now) (a .from), refl)
+loop-holds c = let a = c .before .before .before .before .before .args in (omega arith, put-nil (a .text .now) (a .from), refl)
 
-mul-t7 : tie.Need-mul-t7 Inv-loop μ-loop
-mul-t7 c = omega arith
+mul-t11 : tie.Need-mul-t11 Inv-loop μ-loop
+mul-t11 c = search needs
 
-shared-slice-read-t13 : tie.Need-shared-slice-read-t13 Inv-loop μ-loop
-shared-slice-read-t13 c = omega arith
+shared-slice-read-t14 : tie.Need-shared-slice-read-t14 Inv-loop μ-loop
+shared-slice-read-t14 c = omega (arith, c .before .before .before .before .before .before .before .before .pre .0 .coded)
 
-mul-t14 : tie.Need-mul-t14 Inv-loop μ-loop
-mul-t14 c = omega arith
+mul-t15 : tie.Need-mul-t15 Inv-loop μ-loop
+mul-t15 c = search needs
 
-shared-slice-read-t16 : tie.Need-shared-slice-read-t16 Inv-loop μ-loop
-shared-slice-read-t16 c = omega arith
+shared-slice-read-t17 : tie.Need-shared-slice-read-t17 Inv-loop μ-loop
+shared-slice-read-t17 c = omega arith
 
-slice-aggregate-put-row : tie.Need-slice-aggregate-put-row Inv-loop μ-loop
-slice-aggregate-put-row c = refl
+mul-t18 : tie.Need-mul-t18 Inv-loop μ-loop
+mul-t18 c = search needs
+
+shared-slice-read-t20 : tie.Need-shared-slice-read-t20 Inv-loop μ-loop
+shared-slice-read-t20 c = omega (arith, c .before .before .before .before .before .before .before .before .before .before .pre .0 .counted)
+
+mul-put-row : tie.Need-mul-put-row Inv-loop μ-loop
+mul-put-row c = omega (arith, first-few (c .before .before .before .before .before .before .before .before .before .before .before .args .coded) (c .before .before .before .before .before .before .first-written .result) (c .before .before .before .before .before .before .first-written .ensures))
+
+sub-put-row : tie.Need-sub-put-row Inv-loop μ-loop
+sub-put-row c = omega (arith, first-few (c .before .before .before .before .before .before .before .before .before .before .before .args .coded) (c .before .before .before .before .before .before .first-written .result) (c .before .before .before .before .before .before .first-written .ensures))
+
+part-put-row-start : tie.Need-part-put-row-start Inv-loop μ-loop
+part-put-row-start c = omega (arith, first-few (c .before .before .before .before .before .before .before .before .before .before .before .before .args .coded) (c .before .before .before .before .before .before .before .first-written .result) (c .before .before .before .before .before .before .before .first-written .ensures))
+
+part-put-row-end : tie.Need-part-put-row-end Inv-loop μ-loop
+part-put-row-end c = search needs
 
 put-row-requires : tie.Need-put-row-requires Inv-loop μ-loop
-put-row-requires c κs = omega (arith, room (c .before .before .before .before), lines-next-length (rows (c .before .before .before .before .before .before .before .before .before)) (c .before .before .before .before .before .loop .i), c .before .before .before .before .before .loop .inv .1 .after)
+put-row-requires c κs = let a = c .before .before .before .before .before .before .before .before .before .before .before .before .before .args in let l = c .before .before .before .before .before .before .before .loop in rw (row-written (a .coded) (a .codes .now) (a .accounts .now) (a .counts .now) (l .i) (c .before .before .before .before .before .before .before .before .first-written .result) (c .before .before .before .before .before .before .before .before .first-written .ensures)) (omega (arith, room (c .before .before .before .before .before .before .before .before .before .before .before .before .before) (l .i) (c .before .before .before .before .before .before .loop-test .taken), lines-next-length (rows (c .before .before .before .before .before .before .before .before .before .before .before .before .before)) (l .i), l .inv .1 .after, l .inv .2))
 
 add-i : tie.Need-add-i Inv-loop μ-loop
 add-i c = omega arith
@@ -58,18 +79,13 @@ loop-less : tie.Need-loop-less Inv-loop μ-loop
 loop-less c = omega arith
 
 loop-again : tie.Need-loop-again Inv-loop μ-loop
-loop-again c = let a = c .before .before .before .before .before .before .before .before .before .before .before .before .args in
-    let l = c .before .before .before .before .before .before .before .before .loop in
-    let p = put-append (linesOf (rows (c .before .before .before .before .before .before .before .before .before .before .before .before)) (l .i)) (writeRow (rows (c .before .before .before .before .before .before .before .before .before .before .before .before) (l .i))) (a .text .now) (a .from) (l .text) _ (l .at) _ (omega (arith, room (c .before .before .before .before .before .before .before), lines-next-length (rows (c .before .before .before .before .before .before .before .before .before .before .before .before)) (l .i))) (l .inv .1) (c .before .before .put-row .ensures) in
-    (omega arith, rw (lines-next (rows (c .before .before .before .before .before .before .before .before .before .before .before .before)) (l .i)) p, c .before .before .put-row .kept .0 ∙ l .inv .2)
+loop-again c = let s = c .before .before .before .before .before .before .before .before .before .before .before .before .before .before .before .before in let a = s .args in let l = c .before .before .before .before .before .before .before .before .before .before .loop in let put = rw (row-written (a .coded) (a .codes .now) (a .accounts .now) (a .counts .now) (l .i) (c .before .before .before .before .before .before .before .before .before .before .before .first-written .result) (c .before .before .before .before .before .before .before .before .before .before .before .first-written .ensures)) at (c .before .before .put-row .ensures) in let p = put-append (linesOf (rows s) (l .i)) (writeRow (rows s (l .i))) (a .text .now) (a .from) (l .text) _ (l .at) _ (omega (arith, room s (l .i) (c .before .before .before .before .before .before .before .before .before .loop-test .taken), lines-next-length (rows s) (l .i))) (l .inv .1) put in (omega arith, rw (lines-next (rows s) (l .i)) p, c .before .before .put-row .kept .0 ∙ l .inv .2)
 
 same-length : tie.Need-same-length Inv-loop μ-loop
 same-length c = c .before .loop .inv .2
 
 returns : tie.Need-returns Inv-loop μ-loop
-returns c = let a = c .before .before .before .before .before .args in
-    let l = c .before .loop in
-    rw (lines-all (a .accounts .now) (a .counts .now ∷ []) (l .i) (omega arith)) at (l .inv .1)
+returns c = let s = c .before .before .before .before .before .before .before in let a = s .args in let l = c .before .loop in rw (lines-by (a .coded) (a .codes .now) (a .accounts .now) (a .counts .now) (l .i) (s .pre .0 .coded) (omega arith)) at (l .inv .1)
 
 pub put-rows-spec : {M : Type 1} → statement M
 put-rows-spec =
@@ -77,12 +93,18 @@ put-rows-spec =
     (tie.spec
     Inv-loop
     μ-loop
+    first-written-requires
     loop-holds
-    mul-t7
-    shared-slice-read-t13
-    mul-t14
-    shared-slice-read-t16
-    slice-aggregate-put-row
+    mul-t11
+    shared-slice-read-t14
+    mul-t15
+    shared-slice-read-t17
+    mul-t18
+    shared-slice-read-t20
+    mul-put-row
+    sub-put-row
+    part-put-row-start
+    part-put-row-end
     put-row-requires
     add-i
     loop-less

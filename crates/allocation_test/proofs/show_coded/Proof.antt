@@ -2,8 +2,8 @@
 use mathlib.Core.Path.{sym}
 use lib.Seq.{length-take-le}
 use borrow.Author.Needs.{needs}
-use Rattle.allocation_test.proofs.show.Statement.{statement}
-use Rattle.allocation_test.proofs.show.Tie as tie
+use Rattle.allocation_test.proofs.show_coded.Statement.{statement}
+use Rattle.allocation_test.proofs.show_coded.Tie as tie
 
 print-requires : tie.Need-print-requires
 print-requires c κs = search needs
@@ -44,8 +44,8 @@ print-requires-4 c κs = search needs
 returns : tie.Need-returns
 returns c = search needs
 
-pub show-spec : {M : Type 1} → statement M
-show-spec =
+pub show-coded-spec : {M : Type 1} → statement M
+show-coded-spec =
     tie.close
     (tie.spec
     print-requires
