@@ -21,7 +21,7 @@ use Rattle.series.specs.declared.Method.{Method}
 use Rattle.series.specs.declared.Terms.{Terms}
 use Rattle.series.proofs.CallLaws.{not-wheel, codes-unseen, wheel-judged, lottery-judged, wheel-draw, lottery-draw, starting-on}
 use Rattle.allocation.specs.Stretch.{Sized}
-use Rattle.allocation.specs.Blocks.{Increment, WheelCall}
+use Rattle.allocation.specs.Blocks.{WheelCall}
 use Rattle.allocation.specs.Lottery.{LotteryCall, DrawCall}
 use Rattle.judging.specs.Judged.{JudgedSeries}
 use Rattle.judging.specs.Assigning.{Assigns}

@@ -1,8 +1,8 @@
 -- What is printed, from what the parts of the call answered.
-use Prim.Native.Nat.{ℕ, _≤_, _<_}
+use Prim.Native.Nat.{ℕ, _≤_}
 use mathlib.Core.Path.{_≡_, refl, sym, ap, _∙_}
 use mathlib.Core.Bool.{Bool, true, false, cond}
-use mathlib.Core.List.{List, [], _∷_, _++_, append-nil}
+use mathlib.Core.List.{List, [], _∷_, append-nil}
 use mathlib.Core.Logic.{⊎-elim}
 use native.Mathlib.Omega.{arith}
 use borrow.Author.Tests.{eq-eqb, le-ltb}
@@ -25,7 +25,7 @@ use Rattle.series.proofs.Answer.{the-type}
 use Rattle.series.proofs.ResultLaws.{never, value-is}
 use Rattle.series.proofs.Demand3.{length-assigned}
 use Rattle.series_text.specs.Fields.{Text}
-use Rattle.series_text.specs.Rows.{writeRow, writeRows, rowsOf}
+use Rattle.series_text.specs.Rows.{writeRows, rowsOf}
 use Rattle.series_text.specs.Text.{MOST_LINES, readText}
 use Rattle.text_writing.specs.Answers.{writingOf}
 use Rattle.series_text.specs.Calls.{lengthOf, evenly, lineCount, headAndLines, linesInto, tableInto, noteInto}

@@ -1,5 +1,5 @@
 -- What the calls under the exports answered, as what the exports hand back.
-use Prim.Native.Nat.{ℕ, _<_}
+use Prim.Native.Nat.{ℕ}
 use mathlib.Core.Path.{_≡_, refl, sym, ap, _∙_}
 use mathlib.Core.Bool.{Bool, true, false, cond}
 use mathlib.Core.List.{List}
@@ -13,7 +13,6 @@ use Rattle.series.specs.Answers.{Allocation, handedBack}
 use Rattle.series.specs.Call.{answer, output}
 use Rattle.series.specs.declared.Method.{Method}
 use Rattle.series.specs.declared.Terms.{Terms}
-use Rattle.series.proofs.ResultLaws.{never}
 use Rattle.series_text.specs.Fields.{Text}
 use Rattle.series_text.specs.Letters.{letter, methodBy}
 use Rattle.series_text.specs.Calls.{Handed, handed, writeInto, lengthOf}
@@ -21,7 +20,7 @@ use Rattle.assignment_text.specs.Printed.{printed}
 use Rattle.assignment_text.specs.Responses.{Printing, responseOf, printInto, Responds}
 use Rattle.assignment_text.specs.declared.Response.{Response}
 use Rattle.assignment_text.proofs.RoomLaws.{printed-room}
-use Rattle.dilbreth.specs.Exports.{seriesBy, called, Number, Allocates, Reads, writtenBy, printedInto, Writes}
+use Rattle.dilbreth.specs.Exports.{seriesBy, called, Allocates, Reads, writtenBy, printedInto, Writes}
 
 -- the values of a series with a known method
 abbrev termsOf : Method → ℕ → ℕ → Terms

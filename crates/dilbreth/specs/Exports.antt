@@ -11,7 +11,7 @@ use Rattle.series.specs.Answers.{Allocation, handedBack}
 use Rattle.series.specs.Call.{answer, output}
 use Rattle.series_text.specs.Fields.{Text}
 use Rattle.series_text.specs.Letters.{letter, methodBy}
-use Rattle.series_text.specs.Calls.{readInto, writeInto}
+use Rattle.series_text.specs.Calls.{writeInto}
 use Rattle.assignment_text.specs.Printed.{printed}
 
 -- the series whose method comes as its letter; any other byte is 14 before all other refusals

@@ -1,19 +1,19 @@
 -- The rows of the table, as the code tries them.
 use Prim.Native.Nat.{ℕ, suc, _+_, _-_, _≤_, _<_}
-use mathlib.Core.Path.{_≡_, refl, sym, ap, ap₂, _∙_}
+use mathlib.Core.Path.{_≡_, refl, sym, ap, _∙_}
 use mathlib.Core.Bool.{Bool, true, false, not, _||_, cond}
-use mathlib.Core.List.{List, [], _∷_, _++_, append-assoc}
+use mathlib.Core.List.{List, [], _∷_, _++_}
 use native.Mathlib.Omega.{arith}
 use native.Mathlib.Nat.{le-refl}
 use native.Mathlib.Decide.{decLe}
 use native.Mathlib.Numerals.{add-one, lt-of-le-of-ne}
 use lib.Dec.{eqb, ltb, leb}
-use lib.ListN.{length, getD, take, drop, drop-of-length-le}
+use lib.ListN.{length, getD, drop, drop-of-length-le}
 use lib.Seq.{drop-cons}
 use borrow.Author.Tests.{lt-ltb, le-ltb, le-leb, lt-leb, eq-eqb, ne-eqb, ltb-true, ltb-false, eqb-true, eqb-false}
 use Rattle.series.specs.Results.{Result, refused, value, _>>=_}
 use Rattle.series.specs.Places.{total}
-use Rattle.series.specs.Series.{Series, MOST_POSITIONS, MOST_CONTRACTS, method, exercised, held, byMethod, orderedBy, order}
+use Rattle.series.specs.Series.{Series, MOST_POSITIONS, MOST_CONTRACTS, method, exercised, held, orderedBy, order}
 use Rattle.series.specs.Lottery.{unstarted}
 use Rattle.series.specs.Refusals.{Row, _⟶_∣_, first, NoneApplies, lengthRows, roomRows, standsIn, repeated, positionRows, exercisedRows, outside, undrawn, drawRows, thenDrawRows, listRows, rows, verdict, listVerdict}
 use Rattle.series.specs.declared.Method.{Method}

@@ -1,6 +1,6 @@
 // Accounts in chains, one chain for each bucket of accounts. Positions are counted from 1 here, and 0 is none.
 ghost use mathlib.Core.Path.{_≡_};
-ghost use Prim.Native.Nat.{suc, _<_, _≤_};
+ghost use Prim.Native.Nat.{suc, _<_};
 ghost use lib.ListN.{length, getD};
 ghost use Rattle.series.specs.Series.{MOST_POSITIONS};
 ghost use Rattle.series.specs.Refusals.{standsIn};

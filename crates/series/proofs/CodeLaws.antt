@@ -1,20 +1,19 @@
 -- What an accepted series has of its codes and accounts: under W they stand in code order, and so do the contracts on the wheel.
 use Prim.Native.Nat.{ℕ, zero, suc, _+_, _-_, _≤_, _<_}
 use mathlib.Core.Path.{_≡_, refl, sym, ap, subst, _∙_}
-use mathlib.Core.Bool.{Bool, false, _||_, cond}
+use mathlib.Core.Bool.{false, cond}
 use mathlib.Core.List.{List, [], _∷_}
 use native.Mathlib.Omega.{arith}
 use native.Mathlib.Decide.{decLt}
 use lib.Dec.{eqb, leb, ltb}
 use lib.ListN.{length, getD}
-use borrow.Author.Tests.{lt-ltb, le-ltb, leb-false, eqb-false, eq-eqb}
+use borrow.Author.Tests.{lt-ltb, le-ltb, leb-false, eqb-false}
 use Rattle.series.specs.Sums.{sumBelow}
 use Rattle.series.specs.Places.{before, last}
-use Rattle.series.specs.Series.{Series, method, exercised, held, order}
-use Rattle.series.specs.Refusals.{NoneApplies, lengthRows, exercisedRows, standsIn, repeated, positionRows, rows, aside, Accepted}
+use Rattle.series.specs.Series.{Series, method, order}
+use Rattle.series.specs.Refusals.{NoneApplies, standsIn, repeated, positionRows, Accepted}
 use Rattle.series.specs.declared.Method.{Method}
-use Rattle.series.proofs.RowLaws.{passed-append}
-use Rattle.series.proofs.SumLaws.{sum-cong, sum-const, sum-split, sum-next}
+use Rattle.series.proofs.SumLaws.{sum-cong, sum-const, sum-split}
 use Rattle.series.proofs.PlaceLaws.{before-zero, before-suc}
 use Rattle.series.proofs.AcceptedLaws.{Facts, accepted-facts, positions-pass, or-false, positive}
 

@@ -2,7 +2,9 @@
 use Prim.Native.Nat.{ℕ}
 use mathlib.Core.Path.{_≡_, refl}
 use mathlib.Core.List.{List, [], _∷_, map}
-use Rattle.series.specs.Series.{Series}
+use Rattle.series.specs.Results.{Result, refused, value}
+use Rattle.series.specs.Series.{Series, method}
+use Rattle.series.specs.Refusals.{listVerdict}
 use Rattle.series.specs.declared.Method.{Method}
 use Rattle.series.specs.declared.Method.the-variants.{Wheel, ProRata, Lottery}
 use Rattle.series.proofs.Starred.{calledOn, allocated, turnedAway}
@@ -70,3 +72,31 @@ pub calls-known : map calledOn calls ≡
     []
 unfolding calledOn calls
 calls-known = refl
+
+-- the same lists judged alone
+pub judgedAlone : Series → Result ℕ
+unfolding calledOn listVerdict
+judgedAlone s = listVerdict (method s) (s .codes) (s .accounts) (s .shorts)
+
+pub lists-known : map judgedAlone calls ≡
+    value 355 ∷
+    refused 5 ∷
+    refused 5 ∷
+    refused 19 ∷
+    refused 19 ∷
+    refused 19 ∷
+    refused 19 ∷
+    refused 19 ∷
+    refused 6 ∷
+    refused 5 ∷
+    refused 5 ∷
+    refused 5 ∷
+    value 10 ∷
+    value 3 ∷
+    refused 1 ∷
+    refused 1 ∷
+    value 10 ∷
+    value 3 ∷
+    []
+unfolding judgedAlone calls
+lists-known = refl

@@ -16,7 +16,7 @@ use Rattle.series.specs.declared.Method.{Method}
 use Rattle.series.specs.declared.Terms.{Terms}
 use Rattle.series.proofs.ResultLaws.{never}
 use Rattle.series_text.specs.Numbers.{number}
-use Rattle.series_text.specs.Fields.{Text, COMMA, NEWLINE, Read, ends, field, past, fieldBy, endBefore, readFields}
+use Rattle.series_text.specs.Fields.{Text, COMMA, NEWLINE, Read, field, past, fieldBy, endBefore, readFields}
 use Rattle.series_text.specs.Rows.{numbers, readRow, readRows, rowsOf, column}
 use Rattle.series_text.specs.Names.{line1, line3, coded, namesLine, afterLine, headingOr, readNames}
 use Rattle.series_text.specs.Letters.{methodBy, methodOf}

@@ -21,7 +21,7 @@ use Rattle.series_text.specs.Rows.{rowsOf}
 use Rattle.series_text.specs.Names.{line3, namesLine, headingOf, coded, afterLine, headingOr, readNames}
 use Rattle.series_text.specs.Letters.{letter, methodBy, methodOf}
 use Rattle.series_text.specs.Text.{MOST_BYTES, MOST_LINES, readTerms, readHead, lineWidth, seriesOf, readPositions, readText, writeTerms, writeHead, columns, textWith, sameNumbers, writesCodes, writeText}
-use Rattle.series_text.specs.Calls.{readingOf, readInto, handed, evenly, lineCount, headAndLines, writeInto, lengthOf}
+use Rattle.series_text.specs.Calls.{readingOf, readInto, handed, lineCount, headAndLines, writeInto, lengthOf}
 use Rattle.series_text.specs.declared.names.Heading.{Heading}
 use Rattle.series_text.specs.declared.Reading.{Reading}
 use Rattle.series_text.proofs.FieldLaws.{prefixed, field-byte, field-end, and-true-parts}

@@ -1,5 +1,5 @@
 -- Laws of the lines that are written: how they are put, and what the calls that write hand back and leave.
-use Prim.Native.Nat.{ℕ, zero, suc, _+_, _-_, _*_, _≤_, _<_}
+use Prim.Native.Nat.{ℕ, suc, _+_, _-_, _≤_, _<_}
 use mathlib.Core.Path.{_≡_, refl, sym, ap, _∙_}
 use mathlib.Core.Bool.{Bool, true, false, _&&_}
 use mathlib.Core.List.{List, [], _∷_, _++_, append-assoc, append-nil}
@@ -7,17 +7,15 @@ use native.Mathlib.Omega.{arith}
 use native.Mathlib.Nat.{zero-add}
 use native.Mathlib.Numerals.{add-one}
 use borrow.Author.Tests.{lt-ltb, le-ltb, eq-eqb, ne-eqb}
-use lib.ListN.{length, getD, take, drop, set, length-append, length-drop, length-set, length-map, drop-of-length-le}
+use lib.ListN.{length, getD, take, drop, set, length-append, length-set, drop-of-length-le}
 use lib.Seq.{drop-cons}
 use lib.Dec.{eqb}
-use Rattle.series.specs.Ascii.{ascii}
 use Rattle.series.specs.Results.{Result, refused, value, _>>=_, after}
 use Rattle.series.specs.Series.{Series}
 use Rattle.series.specs.Outputs.{onto}
-use Rattle.series.specs.Sums.{sumBelow, listed}
+use Rattle.series.specs.Sums.{listed}
 use Rattle.series.specs.declared.Terms.{Terms}
-use Rattle.series_text.specs.Numbers.{decimal}
-use Rattle.series_text.specs.Fields.{Text, COMMA, endBefore, writeNumber}
+use Rattle.series_text.specs.Fields.{Text, COMMA}
 use Rattle.series_text.specs.Rows.{writeRow, writeRows, rowOf, rowsOf}
 use Rattle.series_text.specs.Names.{namesLine, headingOf}
 use Rattle.series_text.specs.Letters.{letter}

@@ -1,6 +1,5 @@
 -- `judge` meets its contract: the list's rows, and then those of what is exercised and of the draw.
 use mathlib.Core.Path.{sym, ap, _∙_}
-use Rattle.series.specs.Series.{Series}
 use Rattle.judging.specs.Judged.{judgedOf}
 use Rattle.judging.proofs.TableLaws.{refused-list, judged-terms}
 use borrow.Author.Needs.{needs}

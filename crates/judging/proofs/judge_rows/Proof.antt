@@ -1,7 +1,6 @@
 -- `judge_rows` meets its contract: the rows of the length in turn, and then the walk over the positions.
 use Rattle.judging.specs.Judged.{EvenList}
 use Rattle.judging.proofs.TableLaws.{refused-lengths, refused-codes, refused-many, refused-none, refused-room, walked}
-use borrow.Author.Needs.{needs}
 use Rattle.judging.proofs.judge_rows.Statement.{statement}
 use Rattle.judging.proofs.judge_rows.Tie as tie
 

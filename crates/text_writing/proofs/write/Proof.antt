@@ -8,15 +8,15 @@ use lib.Seq.{length-take-le}
 use borrow.Author.Tests.{not-false}
 use Rattle.series.specs.Series.{Series}
 use Rattle.series_text.specs.Rows.{writeRows, rowsOf}
-use Rattle.series_text.specs.Text.{writeHead, columns, sameNumbers, writesCodes}
+use Rattle.series_text.specs.Text.{writeHead, columns, writesCodes}
 use Rattle.series_text.specs.Calls.{headAndLines, writeInto, lengthOf}
 use Rattle.series_text.proofs.LengthLaws.{head-room}
 use Rattle.series_text.proofs.RoundTrip.{same-numbers, codes-plain}
 use Rattle.text_writing.specs.Answers.{writingOf}
-use Rattle.text_writing.specs.Parts.{Columns}
-use Rattle.text_writing.specs.declared.Writing.{Writing}
+
+
 use Rattle.text_writing.proofs.PutLaws.{put-taken}
-use Rattle.text_writing.proofs.WriteLaws.{Measured, measured, measured-columns, leaves-refused, text-long, text-short, text-put}
+use Rattle.text_writing.proofs.WriteLaws.{measured, measured-columns, leaves-refused, text-long, text-short, text-put}
 use borrow.Author.Needs.{needs}
 use Rattle.text_writing.proofs.write.Statement.{statement}
 use Rattle.text_writing.proofs.write.Tie as tie

@@ -1,8 +1,6 @@
 -- `write_note` meets its contract: a note is a head and one line of one number.
-use mathlib.Core.Path.{refl, ap}
 use mathlib.Core.List.{[], _∷_}
 use native.Mathlib.Omega.{arith}
-use lib.ListN.{length}
 use Rattle.series_text.specs.Calls.{noteInto}
 use Rattle.text_writing.proofs.PutLaws.{put-append}
 use Rattle.text_writing.proofs.WriteLaws.{lines-short, lines-put, one-row, note-measured}

@@ -1,12 +1,11 @@
 -- `table::rows_length` meets its contract. The loop's invariant: the sum is the length of the lines passed, at most 33 bytes each.
-use Prim.Native.Nat.{ℕ, _*_, _-_, _≤_}
-use mathlib.Core.Path.{_≡_, refl, sym, ap, _∙_}
-use mathlib.Core.List.{List}
+use Prim.Native.Nat.{_*_, _-_, _≤_}
+use mathlib.Core.Path.{_≡_, refl, ap, _∙_}
 use native.Mathlib.Omega.{arith}
 use lib.ListN.{length}
 use borrow.Author.Needs.{needs}
 use Rattle.series.specs.Sums.{listed}
-use Rattle.series_text.specs.Rows.{writeRow, writeRows, rowOf}
+use Rattle.series_text.specs.Rows.{writeRows, rowOf}
 use Rattle.series_text.specs.Text.{columnsBy}
 use Rattle.series_text.proofs.LengthLaws.{linesOf, lines-next-length}
 use Rattle.text_writing.proofs.WriteLaws.{row-written, row-short, first-few, lines-by}
