@@ -8,7 +8,7 @@
  *    2  there are more than 4,096 positions
  *    3  there are no positions
  *    4  an output is too short
- *    5  a code (W) or an account is 0 or does not rise
+ *    5  a code (W) or account (P,L) is 0 or does not rise
  *    6  a position has no short contracts
  *    7  the positions hold more than 10,000,000 contracts
  *    8  no contract is exercised

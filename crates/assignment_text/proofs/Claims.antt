@@ -7,7 +7,7 @@ use Rattle.series.specs.Sums.{bit, listed}
 use Rattle.series.specs.Places.{total, next, run, within, marked, before, last, amounts}
 use Rattle.series.specs.Wheel.{wheel}
 use Rattle.series.specs.Lottery.{startingPlace, lottery, unstarted, lotteryAmounts}
-use Rattle.series.specs.Refusals.{first, lengthRows, roomRows, standsIn, repeated, positionRows, exercisedRows, outside, undrawn, drawRows, thenDrawRows, listRows, rows, verdict}
+use Rattle.series.specs.Refusals.{first, lengthRows, roomRows, standsIn, accountRefused, positionRows, exercisedRows, outside, undrawn, drawRows, thenDrawRows, listRows, rows, verdict}
 use Rattle.series.specs.Call.{assigned}
 use Rattle.series_text.specs.Numbers.{digit, digits, spelled, amountFrom, amount, numeral, number, decimalIn, decimal}
 use Rattle.series_text.specs.Fields.{Text, ends, field, past, fieldBy, endBefore, readFields, writeNumber}
@@ -65,7 +65,7 @@ cases =
 
 -- the line `unfolding` names every definition that printing computes with
 printing : Text → Text
-unfolding bit listed total next run within marked before last amounts wheel startingPlace lottery unstarted lotteryAmounts first lengthRows roomRows standsIn repeated positionRows exercisedRows outside undrawn drawRows thenDrawRows listRows rows verdict assigned digit digits spelled amountFrom amount numeral number decimalIn decimal ends field past fieldBy endBefore readFields writeNumber numbers readRow readRows writeRow writeRows rowsOf column namesLine afterLine headingOr readNames letter methodBy methodOf readTerms readHead readPositions readText refusedLines assignedLines seriesOrRefusal textOrRefusal linesFor printed ascii
+unfolding bit listed total next run within marked before last amounts wheel startingPlace lottery unstarted lotteryAmounts first lengthRows roomRows standsIn accountRefused positionRows exercisedRows outside undrawn drawRows thenDrawRows listRows rows verdict assigned digit digits spelled amountFrom amount numeral number decimalIn decimal ends field past fieldBy endBefore readFields writeNumber numbers readRow readRows writeRow writeRows rowsOf column namesLine afterLine headingOr readNames letter methodBy methodOf readTerms readHead readPositions readText refusedLines assignedLines seriesOrRefusal textOrRefusal linesFor printed ascii
 printing s = printed s
 
 pub known : map (λ c. printed (c .input)) cases ≡ map (λ c. c .output) cases

@@ -13,12 +13,12 @@ use Rattle.series.specs.declared.Terms.{Terms}
 use Rattle.series.proofs.ResultLaws.{never, value-is}
 use Rattle.series_text.specs.Fields.{Text}
 use Rattle.series_text.specs.Text.{MOST_LINES, readText}
+use Rattle.series_text.specs.Parts.{Columns}
 use Rattle.series_text.specs.Calls.{Handed, readInto, handed}
-use Rattle.series_text.proofs.RoundTrip.{Lists}
 use Rattle.series_text.proofs.ShortestText.{text-is}
 
 -- the lists of a series that was read: of one length, and at most 1,024 positions
-pub few-positions : (s : Text) (t : Series) → readText s ≡ value t → Lists t
+pub few-positions : (s : Text) (t : Series) → readText s ≡ value t → Columns (t .codes) (t .accounts) (t .shorts)
 few-positions s t e = text-is s t e .spells .lists
 
 -- the lists have lengths c, a and h

@@ -4,14 +4,14 @@ use mathlib.Core.List.{List, [], _∷_}
 use lib.ListN.{getD}
 use Rattle.series.specs.Ascii.{ascii}
 
--- the lines of the refusals 1 to 18
+-- the lines of the refusals 1 to 19
 unfoldable pub refusals : List (List ℕ)
 refusals =
     ascii "codes, accounts and shorts differ in length\n" ∷
     ascii "there are more than 4,096 positions\n" ∷
     ascii "there are no positions\n" ∷
     ascii "an output is too short\n" ∷
-    ascii "a code (W) or an account is 0 or does not rise\n" ∷
+    ascii "a code (W) or account (P,L) is 0 or does not rise\n" ∷
     ascii "a position has no short contracts\n" ∷
     ascii "the positions hold more than 10,000,000 contracts\n" ∷
     ascii "no contract is exercised\n" ∷

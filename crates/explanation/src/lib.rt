@@ -30,7 +30,7 @@ pub fn explain(number: u32, line: &mut [u8]) -> usize
         2 => put(b"there are more than 4,096 positions\n", line),
         3 => put(b"there are no positions\n", line),
         4 => put(b"an output is too short\n", line),
-        5 => put(b"a code (W) or an account is 0 or does not rise\n", line),
+        5 => put(b"a code (W) or account (P,L) is 0 or does not rise\n", line),
         6 => put(b"a position has no short contracts\n", line),
         7 => put(b"the positions hold more than 10,000,000 contracts\n", line),
         8 => put(b"no contract is exercised\n", line),

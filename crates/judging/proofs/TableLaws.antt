@@ -15,7 +15,7 @@ use Rattle.series.specs.Results.{Result, refused, value, _>>=_}
 use Rattle.series.specs.Places.{total}
 use Rattle.series.specs.Series.{Series, MOST_POSITIONS, MOST_CONTRACTS, method, exercised, held, orderedBy, order}
 use Rattle.series.specs.Lottery.{unstarted}
-use Rattle.series.specs.Refusals.{Row, _⟶_∣_, first, NoneApplies, lengthRows, roomRows, standsIn, repeated, positionRows, exercisedRows, outside, undrawn, drawRows, thenDrawRows, listRows, rows, verdict, listVerdict}
+use Rattle.series.specs.Refusals.{Row, _⟶_∣_, first, NoneApplies, lengthRows, roomRows, standsIn, accountRefused, positionRows, exercisedRows, outside, undrawn, drawRows, thenDrawRows, listRows, rows, verdict, listVerdict}
 use Rattle.series.specs.declared.Method.{Method}
 use Rattle.series.specs.declared.Terms.{Terms}
 use Rattle.judging.specs.Judged.{judgedOf, EvenList, walkTells, fallsLate}
@@ -122,11 +122,11 @@ module _ (m : Method) (order accounts shorts : List ℕ) where
         five : (eqb k 0 || leb k before) ≡ false
         five = let some : k ≡ 0 → ⊥ = λ e. omega arith in rw (ne-eqb k 0 some, lt-leb k before above)
 
-        pub refused-account : repeated m (earlier accounts i) a ≡ true → refused 19 ≡ verdict-of
+        pub refused-account : accountRefused m (earlier accounts i) a ≡ true → refused 19 ≡ verdict-of
         unfolding here positionRows NoneApplies rowAt
         refused-account e = sym (rows-here ∙ refused-at 1 here (total shorts) (five, tt) e)
 
-        module _ (new : repeated m (earlier accounts i) a ≡ false) where
+        module _ (new : accountRefused m (earlier accounts i) a ≡ false) where
           -- 6 or 7, tried by one test
           pub refused-shorts : (eqb n 0 || ltb left n) ≡ true → refused (cond (eqb n 0) 6 7) ≡ verdict-of
           unfolding here positionRows NoneApplies rowAt
@@ -166,19 +166,19 @@ pub left-enough : (n left : ℕ) → (eqb n 0 || ltb left n) ≡ false → n ≤
 left-enough n left e = ltb-false left n (or-false (eqb n 0) (ltb left n) e .1)
 
 -- an account that is above 0 and not among the earlier ones is not refused, whatever the method
-pub new-account : (m : Method) (a : ℕ) (before : List ℕ) → (a ≡ 0 → ⊥) → standsIn a before ≡ false → repeated m before a ≡ false
-unfolding repeated
+pub new-account : (m : Method) (a : ℕ) (before : List ℕ) → (a ≡ 0 → ⊥) → standsIn a before ≡ false → accountRefused m before a ≡ false
+unfolding accountRefused
 new-account Method.Wheel a before some new = rw (ne-eqb a 0 some) new
 new-account Method.ProRata a before some new = refl
 new-account Method.Lottery a before some new = refl
 
 -- under W account 0 is refused, and so is one that stands earlier
-pub no-account : (a : ℕ) (before : List ℕ) → a ≡ 0 → repeated Method.Wheel before a ≡ true
-unfolding repeated
+pub no-account : (a : ℕ) (before : List ℕ) → a ≡ 0 → accountRefused Method.Wheel before a ≡ true
+unfolding accountRefused
 no-account a before e = rw (eq-eqb a 0 e)
 
-pub old-account : (a : ℕ) (before : List ℕ) → standsIn a before ≡ true → repeated Method.Wheel before a ≡ true
-unfolding repeated
+pub old-account : (a : ℕ) (before : List ℕ) → standsIn a before ≡ true → accountRefused Method.Wheel before a ≡ true
+unfolding accountRefused
 old-account a before e = or-true (eqb a 0) (standsIn a before) e
 
 -- ---- while the accounts rise
@@ -199,7 +199,7 @@ module _ (order accounts shorts : List ℕ) (before highest left i : ℕ) (r : R
 
   module _ (higher : highest < getD accounts i 0) where
     -- an account that rises is new
-    pub rising-new : (m : Method) → repeated m (earlier accounts i) (getD accounts i 0) ≡ false
+    pub rising-new : (m : Method) → accountRefused m (earlier accounts i) (getD accounts i 0) ≡ false
     rising-new m =
         new-account m (getD accounts i 0) (earlier accounts i) (λ e. omega arith)
         (above-all (λ j. getD accounts j 0) (getD accounts i 0) i (λ j lt. omega (arith, r .below j lt)))

@@ -28,12 +28,12 @@ abbrev pub walkTells : Walk → Result ℕ → Type 0
 walkTells (Walk.Judged j) v = judgedOf j ≡ v
 walkTells Walk.Falls v = Unit {0}
 
--- an account does not rise only in a list that rises by something else
+-- `Falls` is answered only where the list rises by something else than its accounts
 abbrev pub fallsOnly : Walk → List ℕ → List ℕ → Type 0
 fallsOnly (Walk.Judged j) order accounts = Unit {0}
 fallsOnly Walk.Falls order accounts = order ≡ accounts → ⊥
 
--- an account does not rise only in a list whose length is not refused, so that its positions decide
+-- `Falls` is answered only where no row of the length applies, so that the positions decide
 abbrev pub fallsLate : Walk → List ℕ → List ℕ → List ℕ → ℕ → Type 0
 fallsLate (Walk.Judged j) order accounts shorts room = Unit {0}
 fallsLate Walk.Falls order accounts shorts room =

@@ -1,4 +1,4 @@
-// Accounts in chains, one chain for each bucket of accounts. Positions are counted from 1 here, and 0 is none.
+// Accounts in chains, one chain for each bucket of accounts. `head` and `next` hold positions counted from 1, and 0 is none; the argument `position` counts from 0.
 ghost use mathlib.Core.Path.{_≡_};
 ghost use Prim.Native.Nat.{suc, _<_};
 ghost use lib.ListN.{length, getD};

@@ -1,4 +1,4 @@
-// Judging a call, in the order of document 01's table: T, or the first refusal that applies.
+// Judging a call, in the order of document 01's table, with document 02's 19: T, or the first refusal that applies.
 mod chains;
 
 use crate::chains::link;
@@ -25,7 +25,7 @@ pub enum Judged {
     Refused(Refusal),
 }
 
-// What a walk over the positions answers while their accounts rise.
+// What a walk over the positions answers: the verdict, or that an account does not rise.
 enum Walk {
     Judged(Judged),
     // An account is not above the one before it.
@@ -117,7 +117,7 @@ fn judge_chained(
     Judged::Accepted(Contracts(10_000_000 - left))
 }
 
-// The same, with chains of its own.
+// The list under W, its accounts in any order, with chains of its own.
 fn judge_distinct(codes: &[u32], accounts: &[u32], shorts: &[u32]) -> Judged
     requires { ⌜ EvenList (now codes) (now accounts) (now shorts) ⌝ }
     ensures { λ r. ⌜ judgedOf r ≡ first (positionRows Method·.Wheel [] 0 0 (now (codes .entry)) (now (accounts .entry)) (now (shorts .entry))) (totalOf (now (shorts .entry))) ⌝ }
@@ -264,7 +264,7 @@ pub fn judge(terms: Terms, codes: &[u32], accounts: &[u32], shorts: &[u32], room
     }
 }
 
-// Judges a whole call of a series whose codes are its accounts, or whose method looks at no code.
+// Judges a whole call of a series whose codes are its accounts. Under P and L that is the verdict for any codes.
 pub fn judge_uncoded(terms: Terms, accounts: &[u32], shorts: &[u32], room: usize) -> Judged
     ensures { λ r. ⌜ judgedOf r ≡ verdict (record { terms = terms; codes = now (accounts .entry); accounts = now (accounts .entry); shorts = now (shorts .entry) }) room ⌝ }
 {

@@ -1,18 +1,19 @@
--- What an accepted series has of its codes and accounts: under W they stand in code order, and so do the contracts on the wheel.
+-- What an accepted series has of its codes and accounts: under W its codes rise, its accounts differ, and the contracts before a position are those of smaller codes.
 use Prim.Native.Nat.{ℕ, zero, suc, _+_, _-_, _≤_, _<_}
 use mathlib.Core.Path.{_≡_, refl, sym, ap, subst, _∙_}
-use mathlib.Core.Bool.{false, cond}
-use mathlib.Core.List.{List, [], _∷_}
+use mathlib.Core.Bool.{Bool, true, false, cond, or-true}
+use mathlib.Core.List.{List, [], _∷_, _++_}
 use native.Mathlib.Omega.{arith}
 use native.Mathlib.Decide.{decLt}
 use lib.Dec.{eqb, leb, ltb}
 use lib.ListN.{length, getD}
-use borrow.Author.Tests.{lt-ltb, le-ltb, leb-false, eqb-false}
+use borrow.Author.Tests.{ne-eqb, lt-ltb, le-ltb, leb-false, eqb-false}
 use Rattle.series.specs.Sums.{sumBelow}
-use Rattle.series.specs.Places.{before, last}
+use Rattle.series.specs.Places.{total, before, last}
 use Rattle.series.specs.Series.{Series, method, order}
-use Rattle.series.specs.Refusals.{NoneApplies, standsIn, repeated, positionRows, Accepted}
+use Rattle.series.specs.Refusals.{Row, first, NoneApplies, lengthRows, roomRows, listRows, standsIn, accountRefused, positionRows, Accepted}
 use Rattle.series.specs.declared.Method.{Method}
+use Rattle.series.proofs.RowLaws.{same-below}
 use Rattle.series.proofs.SumLaws.{sum-cong, sum-const, sum-split}
 use Rattle.series.proofs.PlaceLaws.{before-zero, before-suc}
 use Rattle.series.proofs.AcceptedLaws.{Facts, accepted-facts, positions-pass, or-false, positive}
@@ -76,7 +77,7 @@ new-cons earlier a accounts some fresh n = record { above = above; other = other
     differ (suc i) (suc j) lt lt′ e = n .differ i j (omega arith) (omega arith) e
 
 positions-new : (earlier : List ℕ) (b sum : ℕ) (ks accounts hs : List ℕ) → length accounts ≡ length hs → length ks ≡ length hs → NoneApplies (positionRows Method.Wheel earlier b sum ks accounts hs) → New earlier accounts
-unfolding positionRows NoneApplies repeated
+unfolding positionRows NoneApplies accountRefused
 positions-new earlier b sum ks [] hs la lk h = record { above = λ i lt. absurd (omega arith); other = λ i lt. absurd (omega arith); differ = λ i j lt lt′. absurd (omega arith) }
 positions-new earlier b sum [] (a ∷ accounts) hs la lk h = absurd (omega arith)
 positions-new earlier b sum (k ∷ ks) (a ∷ accounts) [] la lk h = absurd (omega arith)
@@ -111,6 +112,52 @@ module _ (s : Series) (room : ℕ) (ok : Accepted s room) where
 
     pub codes-beside : length (s .codes) ≡ length (s .shorts)
     codes-beside = ap length (sym by-code) ∙ facts .ordered
+
+-- ---- codes that are the accounts
+
+-- no number of the list is above b
+AtMost : ℕ → List ℕ → Type 0
+AtMost b [] = Unit {0}
+AtMost b (n ∷ ns) = (n ≤ b) × AtMost b ns
+
+none-stands : (b a : ℕ) (ns : List ℕ) → AtMost b ns → b < a → standsIn a ns ≡ false
+unfolding AtMost standsIn
+none-stands b a [] h lt = refl
+none-stands b a (n ∷ ns) h lt = let other : a ≡ n → ⊥ = λ e. omega arith in rw (ne-eqb a n other) (none-stands b a ns (h .1) lt)
+
+at-most-more : (b a : ℕ) (ns : List ℕ) → AtMost b ns → b < a → AtMost a ns
+unfolding AtMost
+at-most-more b a [] h lt = tt
+at-most-more b a (n ∷ ns) h lt = (omega arith, at-most-more b a ns (h .1) lt)
+
+not-refused : (m : Method) (b a : ℕ) (earlier : List ℕ) → AtMost b earlier → b < a → accountRefused m earlier a ≡ false
+unfolding accountRefused
+not-refused Method.Wheel b a earlier h lt = let some : a ≡ 0 → ⊥ = λ e. omega arith in rw (ne-eqb a 0 some) (none-stands b a earlier h lt)
+not-refused Method.ProRata b a earlier h lt = refl
+not-refused Method.Lottery b a earlier h lt = refl
+
+positions-alike : (m m′ : Method) (earlier : List ℕ) (b sum : ℕ) (accounts hs : List ℕ) (T : ℕ) → AtMost b earlier → first (positionRows m earlier b sum accounts accounts hs) T ≡ first (positionRows m′ earlier b sum accounts accounts hs) T
+unfolding positionRows first AtMost
+positions-alike m m′ earlier b sum [] hs T h = refl
+positions-alike m m′ earlier b sum (a ∷ rest) [] T h = refl
+positions-alike m m′ earlier b sum (a ∷ rest) (x ∷ hs) T h = go (leb a b) refl (λ lt. positions-alike m m′ (a ∷ earlier) a (sum + x) rest hs T (omega arith, at-most-more b a earlier h lt))
+  where
+    go : (t : Bool) → leb a b ≡ t
+        → (b < a → first (positionRows m (a ∷ earlier) a (sum + x) rest rest hs) T ≡ first (positionRows m′ (a ∷ earlier) a (sum + x) rest rest hs) T)
+        → first (positionRows m earlier b sum (a ∷ rest) (a ∷ rest) (x ∷ hs)) T ≡ first (positionRows m′ earlier b sum (a ∷ rest) (a ∷ rest) (x ∷ hs)) T
+    go true e below = rw (e, or-true (eqb a 0)) refl
+    go false e below =
+        let lt : b < a = leb-false a b e in
+        let some : a ≡ 0 → ⊥ = λ z. omega arith in
+        rw (ne-eqb a 0 some, e, not-refused m b a earlier h lt, not-refused m′ b a earlier h lt, below lt) refl
+
+-- a list whose codes are its accounts is judged alike under every method: so under W as it was before there were codes, and 19 is not met
+pub codes-are-accounts : (m m′ : Method) (accounts hs : List ℕ) (room : ℕ) → first (listRows m accounts accounts hs room) (total hs) ≡ first (listRows m′ accounts accounts hs room) (total hs)
+unfolding listRows AtMost
+codes-are-accounts m m′ accounts hs room =
+    let rows : Method → List Row = λ k. positionRows k [] 0 0 accounts accounts hs in
+    same-below (lengthRows accounts accounts hs) (roomRows hs room ++ rows m) (roomRows hs room ++ rows m′) (total hs)
+    (same-below (roomRows hs room) (rows m) (rows m′) (total hs) (positions-alike m m′ [] 0 0 accounts hs (total hs) tt))
 
 -- ---- the contracts before a position
 

@@ -9,7 +9,7 @@ use Rattle.series.specs.ProRata.{percentage}
 use Rattle.series.specs.Lottery.{unstarted}
 use Rattle.series.specs.Results.{Result, refused}
 use Rattle.series.specs.Series.{Series}
-use Rattle.series.specs.Refusals.{first, lengthRows, roomRows, standsIn, repeated, positionRows, exercisedRows, outside, undrawn, drawRows, thenDrawRows, listRows, rows, verdict}
+use Rattle.series.specs.Refusals.{first, lengthRows, roomRows, standsIn, accountRefused, positionRows, exercisedRows, outside, undrawn, drawRows, thenDrawRows, listRows, rows, verdict}
 use Rattle.series.specs.declared.Method.{Method}
 use Rattle.series.specs.declared.Method.the-variants.{Wheel, Lottery}
 
@@ -36,7 +36,7 @@ call m accounts shorts S draw room =
     }
 
 pub verdictOn : Call → Result ℕ
-unfolding total unstarted first lengthRows roomRows standsIn repeated positionRows exercisedRows outside undrawn drawRows thenDrawRows listRows rows verdict
+unfolding total unstarted first lengthRows roomRows standsIn accountRefused positionRows exercisedRows outside undrawn drawRows thenDrawRows listRows rows verdict
 verdictOn c = verdict (c .series) (c .room)
 
 -- calls that meet 1 and 2, 2 and 4, 3 and 8, 4 and 5, 5 and 6, 6 and then 7, 7 and then 5, 7 and 8, 8 and 10, 9 and 10; and each of them but the third, whose S equals T, meets 10 too

@@ -1,6 +1,6 @@
 -- Laws of the refusal table's rows: rows that fail are passed, and the first that applies is the refusal.
 use Prim.Native.Nat.{ℕ, zero, suc}
-use mathlib.Core.Path.{_≡_, refl}
+use mathlib.Core.Path.{_≡_, refl, ap}
 use mathlib.Core.Bool.{Bool, true, false, cond}
 use mathlib.Core.List.{List, [], _∷_, _++_}
 use native.Mathlib.Omega.{arith}
@@ -38,6 +38,12 @@ first-append (x ∷ xs) ys a = step (x .holds) (first-append xs ys a)
     step : (b : Bool) → first (xs ++ ys) a ≡ first xs a >>= first ys → cond b (refused (x .number)) (first (xs ++ ys) a) ≡ cond b (refused (x .number)) (first xs a) >>= first ys
     step true h = refl
     step false h = h
+
+-- rows above others that come to the same
+pub same-below : {A : Type 0} (xs ys zs : List Row) (a : A) → first ys a ≡ first zs a → first (xs ++ ys) a ≡ first (xs ++ zs) a
+unfolding first
+same-below [] ys zs a h = h
+same-below (x ∷ xs) ys zs a h = ap (cond (x .holds) (refused (x .number))) (same-below xs ys zs a h)
 
 -- where no row applies, the value is the one given
 pub passed-value : {A : Type 0} (rows : List Row) (a : A) → NoneApplies rows → first rows a ≡ value a

@@ -1,4 +1,4 @@
--- Where the allocating call is turned away: the rows of document 01's table from "list, its length" down.
+-- Where the allocating call is turned away: the rows of document 01's table from "list, its length" down, with document 02's 19.
 use Prim.Native.Nat.{ℕ, _+_}
 use mathlib.Core.Path.{_≡_}
 use mathlib.Core.Bool.{Bool, false, not, _||_, cond}
@@ -50,8 +50,8 @@ standsIn n [] = false
 standsIn n (m ∷ ms) = eqb n m || standsIn n ms
 
 -- under W: the account is 0, or stands earlier in the list. P and L judge its order alone
-unfoldable pub repeated : Method → List ℕ → ℕ → Bool
-repeated m earlier a = byMethod m (eqb a 0 || standsIn a earlier) false false
+unfoldable pub accountRefused : Method → List ℕ → ℕ → Bool
+accountRefused m earlier a = byMethod m (eqb a 0 || standsIn a earlier) false false
 
 -- list, each position in turn, by its number in the order, its account and its shorts:
 -- after the accounts earlier in the list, the number before it (0 for the first) and the sum of the shorts before it
@@ -61,7 +61,7 @@ positionRows m earlier before sum (k ∷ ks) [] hs = []
 positionRows m earlier before sum (k ∷ ks) (a ∷ rest) [] = []
 positionRows m earlier before sum (k ∷ ks) (a ∷ rest) (h ∷ hs) =
     (eqb k 0 || leb k before) ⟶ 5 ∣
-    repeated m earlier a ⟶ 19 ∣
+    accountRefused m earlier a ⟶ 19 ∣
     eqb h 0 ⟶ 6 ∣
     ltb MOST_CONTRACTS (sum + h) ⟶ 7 ∣
     positionRows m (a ∷ earlier) k (sum + h) ks rest hs

@@ -1,4 +1,4 @@
--- Document 01's case M and its refusals, and document 02's leading zeros, proved of the definitions by computation.
+-- Document 01's case M and its refusals, and document 02's leading zeros and codes, proved of the definitions by computation. Texts at the limit of 32,768 bytes: `series_text_test/proofs/LargestTexts.antt`.
 use Prim.Native.Nat.{ℕ, zero, suc}
 use Prim.Native.String.{String}
 use mathlib.Core.Path.{_≡_, refl}
@@ -50,8 +50,8 @@ unfolding reading M M-long
 M-long-read = refl
 
 -- M under W, with codes of its own, and an account lower than the one before it
-pub coded : Series
-coded =
+pub M-coded : Series
+M-coded =
     record {
       terms = record { method = Method.Wheel; exercised = record { 0 = 13 }; draw = 4855 };
       codes = 10 ∷ 20 ∷ 30 ∷ 40 ∷ 50 ∷ [];
@@ -62,8 +62,8 @@ coded =
 pub coded-text : Text
 coded-text = ascii "method,exercised,draw\nW,13,4855\ncode,account,short\n10,1,5\n20,3,8\n30,2,2\n40,4,10\n50,5,11\n"
 
-pub coded-read : readText coded-text ≡ value coded
-unfolding reading coded coded-text
+pub coded-read : readText coded-text ≡ value M-coded
+unfolding reading M-coded coded-text
 coded-read = refl
 
 -- the definitions that writing computes with
@@ -77,8 +77,8 @@ unfolding writing M M-text
 M-written = refl
 
 -- with it
-pub coded-written : writeText coded ≡ coded-text
-unfolding writing coded coded-text
+pub coded-written : writeText M-coded ≡ coded-text
+unfolding writing M-coded coded-text
 coded-written = refl
 
 -- n times the text t
@@ -243,6 +243,8 @@ fields =
     record { text = λ d. head false ++ d ++ ascii ",2\n"; series = λ n. one 1 1 n n 2 } ∷
     record { text = λ d. head false ++ ascii "7," ++ d ++ ascii "\n"; series = λ n. one 1 1 7 7 n } ∷
     record { text = λ d. head true ++ d ++ ascii ",7,2\n"; series = λ n. one 1 1 n 7 2 } ∷
+    record { text = λ d. head true ++ ascii "9," ++ d ++ ascii ",2\n"; series = λ n. one 1 1 9 n 2 } ∷
+    record { text = λ d. head true ++ ascii "9,7," ++ d ++ ascii "\n"; series = λ n. one 1 1 9 7 n } ∷
     record { text = λ d. namesLine Heading.Terms ++ ascii "W," ++ d ++ ascii ",1\naccount,short\n7,2\n"; series = λ n. one n 1 7 7 2 } ∷
     record { text = λ d. namesLine Heading.Terms ++ ascii "W,1," ++ d ++ ascii "\naccount,short\n7,2\n"; series = λ n. one 1 n 7 7 2 } ∷ []
 
@@ -300,12 +302,6 @@ names-judged = refl
 
 -- ---- writing
 
--- n positions of the largest numbers, of 33 bytes each with the code column, and then one more
-abbrev large : ℕ → ℕ → ℕ → ℕ → Series
-large n code account short =
-    let then : ℕ → List ℕ = λ k. replicate n 4294967295 ++ (k ∷ []) in
-    record { terms = M .terms; codes = then code; accounts = then account; shorts = then short }
-
 -- M's terms with so many codes, accounts and shorts
 abbrev counted : ℕ → ℕ → ℕ → Series
 counted codes accounts shorts = record { terms = M .terms; codes = replicate codes 1; accounts = replicate accounts 1; shorts = replicate shorts 1 }
@@ -326,20 +322,16 @@ writings =
     writes (counted 1025 1024 1025) 0 (refused 1) ∷
     writes (counted 1025 1025 1024) 0 (refused 1) ∷
     writes (counted 0 1 1) 0 (refused 1) ∷
-    -- 1,025 positions, before 11 and before 4
-    writes (large 1024 1 2 3) 0 (refused 15) ∷
+    -- 1,025 positions, before 4
     writes (counted 1025 1025 1025) 0 (refused 15) ∷
-    -- 32,769 bytes, before 4; 32,768 bytes
-    writes (large 991 100000 100 101) 0 (refused 11) ∷
-    writes (large 991 10000 100 101) 32768 (value 32768) ∷
     -- the series above
     writes M 67 (refused 4) ∷
     writes M 68 (value 68) ∷
-    writes coded 87 (refused 4) ∷
-    writes coded 88 (value 88) ∷ []
+    writes M-coded 87 (refused 4) ∷
+    writes M-coded 88 (value 88) ∷ []
 
 pub writings-judged : map (λ r. lengthOf (writeInto (r .series) (r .room))) writings ≡ map (λ r. r .answer) writings
-unfolding writing M coded writings lengthOf
+unfolding writing M M-coded writings lengthOf
 writings-judged = refl
 
 -- case M, 68 bytes

@@ -8,7 +8,7 @@ use native.Mathlib.Numerals.{add-one}
 use lib.ListN.{length, getD, drop, length-append, length-drop, length-map, drop-of-length-le}
 use lib.Seq.{drop-cons}
 use lib.Dec.{eqb, ltb}
-use borrow.Author.Tests.{eqb-true, ltb-false, not-false}
+use borrow.Author.Tests.{eq-eqb, eqb-true, le-ltb, ltb-false, not-false}
 use Rattle.series.specs.Ascii.{ascii}
 use Rattle.series.specs.Sums.{sumBelow, listed}
 use Rattle.series.specs.Results.{value, refuse}
@@ -19,8 +19,9 @@ use Rattle.series_text.specs.Numbers.{decimal}
 use Rattle.series_text.specs.Fields.{Text, endBefore, writeNumber}
 use Rattle.series_text.specs.Rows.{writeRow, writeRows, rowOf, rowsOf}
 use Rattle.series_text.specs.Names.{namesLine, headingOf}
-use Rattle.series_text.specs.Text.{MOST_LINES, writeTerms, writeHead}
+use Rattle.series_text.specs.Text.{MOST_LINES, writeTerms, writeHead, columnsBy}
 use Rattle.series_text.specs.declared.names.Heading.{Heading}
+use Rattle.series_text.specs.Parts.{Columns, Plain}
 use Rattle.series_text.specs.Calls.{evenly, lineCount, headAndLines}
 use Rattle.series_text.proofs.FieldLaws.{and-true-parts}
 use Rattle.series_text.proofs.RowLaws.{Each, row-few}
@@ -123,6 +124,26 @@ unfolding evenly
 even-each n [] e = tt
 even-each n (c ∷ cs) e = let both = and-true-parts (eqb (length c) n) (evenly n cs) e in (eqb-true (length c) n (both .0), even-each n cs (both .1))
 
+-- columns that are as long as the first, with the codes or without them
+pub even-lengths : (c : Bool) (codes accounts shorts : List ℕ) (n : ℕ) → Plain c codes accounts → Each (λ l. length l ≡ n) (columnsBy c codes accounts shorts) → (length codes ≡ length accounts) × (length shorts ≡ length accounts)
+even-lengths true codes accounts shorts n plain each = (omega arith, omega arith)
+even-lengths false codes accounts shorts n plain each = (ap length (plain refl), omega arith)
+
+pub count-by : (c : Bool) (codes accounts shorts : List ℕ) → length codes ≡ length accounts → lineCount (columnsBy c codes accounts shorts) ≡ length accounts
+unfolding lineCount
+count-by true codes accounts shorts same = same
+count-by false codes accounts shorts same = refl
+
+pub columns-even : (c : Bool) (codes accounts shorts : List ℕ) → length codes ≡ length accounts → length shorts ≡ length accounts → evenly (lineCount (columnsBy c codes accounts shorts)) (columnsBy c codes accounts shorts) ≡ true
+unfolding evenly
+columns-even true codes accounts shorts same beside = rw (count-by true codes accounts shorts same, eq-eqb (length codes) (length accounts) same, eq-eqb (length accounts) (length accounts) refl, eq-eqb (length shorts) (length accounts) beside)
+columns-even false codes accounts shorts same beside = rw (count-by false codes accounts shorts same, eq-eqb (length accounts) (length accounts) refl, eq-eqb (length shorts) (length accounts) beside)
+
+pub even-columns : (c : Bool) (codes accounts shorts : List ℕ) (n : ℕ) → Plain c codes accounts → Each (λ l. length l ≡ n) (columnsBy c codes accounts shorts) → lineCount (columnsBy c codes accounts shorts) ≤ MOST_LINES → Columns codes accounts shorts
+even-columns c codes accounts shorts n plain each few =
+    let both = even-lengths c codes accounts shorts n plain each in
+    record { codes = both .0; shorts = both .1; few = omega (arith, count-by c codes accounts shorts (both .0)) }
+
 -- the columns are as long as the first, they are not too long, and the text is the head with their lines
 pub record LinesKnown (head : Text) (cs : List (List ℕ)) (s : Text) : Type 0 where
   pub even : Each (λ c. length c ≡ lineCount cs) cs
@@ -140,3 +161,8 @@ lines-known head cs s e =
       few = ltb-false MOST_LINES (lineCount cs) (few .0);
       text = even .1 ∙ few .1;
     }
+
+-- the head and the lines of columns of one length, of at most 1,024 numbers
+pub lines-written : (head : Text) (c : Bool) (codes accounts shorts : List ℕ) → Columns codes accounts shorts → headAndLines head (columnsBy c codes accounts shorts) ≡ value (head ++ writeRows (rowsOf (columnsBy c codes accounts shorts)))
+unfolding headAndLines
+lines-written head c codes accounts shorts l = rw (columns-even c codes accounts shorts (l .codes) (l .shorts), count-by c codes accounts shorts (l .codes), le-ltb MOST_LINES (length accounts) (l .few))

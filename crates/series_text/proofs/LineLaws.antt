@@ -372,8 +372,8 @@ code-put (a ∷ row) ns some =
     rw (none, append-nil)
 
 -- at most so many position lines to the end of the text, each as a code, an account and shorts
-unfoldable pub positionRows : ℕ → Bool → Text → Result (List (List ℕ))
-positionRows most c s = readRows most (lineWidth c) s >>= λ rs. value (map (withCode c) rs)
+unfoldable pub positionLines : ℕ → Bool → Text → Result (List (List ℕ))
+positionLines most c s = readRows most (lineWidth c) s >>= λ rs. value (map (withCode c) rs)
 
 -- rows in front of those that are read
 unfoldable pub above : List (List ℕ) → Result (List (List ℕ)) → Result (List (List ℕ))
@@ -390,8 +390,8 @@ above-above ps qs (refused n) = refl
 above-above ps qs (value rs) = rw append-assoc
 
 -- the first line, and then the others
-positions-next : (most : ℕ) (c : Bool) (b : ℕ) (s : Text) → positionRows (suc most) c (b ∷ s) ≡ (readPosition c (b ∷ s) >>= λ r. above (r .found ∷ []) (positionRows most c (r .rest)))
-unfolding positionRows readRows readPosition above
+positions-next : (most : ℕ) (c : Bool) (b : ℕ) (s : Text) → positionLines (suc most) c (b ∷ s) ≡ (readPosition c (b ∷ s) >>= λ r. above (r .found ∷ []) (positionLines most c (r .rest)))
+unfolding positionLines readRows readPosition above
 positions-next most c b s = go (readRow (lineWidth c) (b ∷ s))
   where
     others : (row : List ℕ) (q : Result (List (List ℕ))) → ((q >>= λ rs. value (row ∷ rs)) >>= λ rs. value (map (withCode c) rs)) ≡ above (withCode c row ∷ []) (q >>= λ rs. value (map (withCode c) rs))
@@ -400,45 +400,45 @@ positions-next most c b s = go (readRow (lineWidth c) (b ∷ s))
 
     go : (q : Result (Read (List ℕ)))
         → ((q >>= λ r. readRows most (lineWidth c) (r .rest) >>= λ rs. value (r .found ∷ rs)) >>= λ rs. value (map (withCode c) rs))
-        ≡ _>>=_ {A = Read (List ℕ)} (q >>= λ r. value (record { found = withCode c (r .found); rest = r .rest })) (λ r. above (r .found ∷ []) (positionRows most c (r .rest)))
+        ≡ _>>=_ {A = Read (List ℕ)} (q >>= λ r. value (record { found = withCode c (r .found); rest = r .rest })) (λ r. above (r .found ∷ []) (positionLines most c (r .rest)))
     go (refused n) = refl
     go (value r) = others (r .found) (readRows most (lineWidth c) (r .rest))
 
 -- what the loop over the lines keeps: n rows of at most `most` are read, and the text goes on at index at
 pub record RowsTo (most : ℕ) (c : Bool) (s : Text) (from : ℕ) (rows : List (List ℕ)) (at n : ℕ) : Type 0 where
-  pub reads : positionRows most c (drop from s) ≡ above rows (positionRows (most - n) c (drop at s))
+  pub reads : positionLines most c (drop from s) ≡ above rows (positionLines (most - n) c (drop at s))
 
 pub rows-start : {most : ℕ} {c : Bool} {s : Text} {from : ℕ} → RowsTo most c s from [] from 0
-rows-start {most} {c} {s} {from} = record { reads = rw sub-zero (above-nil (positionRows most c (drop from s))) }
+rows-start {most} {c} {s} {from} = record { reads = rw sub-zero (above-nil (positionLines most c (drop from s))) }
 
 module _ {most : ℕ} {c : Bool} {s : Text} {from : ℕ} {rows : List (List ℕ)} {at n : ℕ} (so : RowsTo most c s from rows at n) where
   -- the text ends
-  pub rows-end : length s ≤ at → value rows ≡ positionRows most c (drop from s)
-  unfolding above positionRows
+  pub rows-end : length s ≤ at → value rows ≡ positionLines most c (drop from s)
+  unfolding above positionLines
   rows-end le = sym (so .reads ∙ rw (drop-of-length-le s le, rows-none, append-nil))
 
   -- a line too many
-  pub rows-over : at < length s → most ≤ n → refused 15 ≡ positionRows most c (drop from s)
-  unfolding above positionRows readRows
+  pub rows-over : at < length s → most ≤ n → refused 15 ≡ positionLines most c (drop from s)
+  unfolding above positionLines readRows
   rows-over lt le =
       let e : most - n ≡ 0 = omega arith in
       sym (so .reads ∙ rw (drop-more at s lt, e))
 
   -- a further line
-  next-row : at < length s → n < most → positionRows most c (drop from s) ≡ above rows (readPosition c (drop at s) >>= λ r. above (r .found ∷ []) (positionRows (most - (n + 1)) c (r .rest)))
+  next-row : at < length s → n < most → positionLines most c (drop from s) ≡ above rows (readPosition c (drop at s) >>= λ r. above (r .found ∷ []) (positionLines (most - (n + 1)) c (r .rest)))
   next-row lt le =
       let e : most - n ≡ suc (most - (n + 1)) = omega arith in
       so .reads ∙ rw (drop-more at s lt, e, positions-next)
 
   module _ (lt : at < length s) (le : n < most) where
     -- it has not its numbers
-    pub rows-malformed : refused 13 ≡ readPosition c (drop at s) → refused 13 ≡ positionRows most c (drop from s)
+    pub rows-malformed : refused 13 ≡ readPosition c (drop at s) → refused 13 ≡ positionLines most c (drop from s)
     unfolding above
     rows-malformed h = sym (next-row lt le ∙ rw (← h))
 
     -- one more row
     pub rows-more : {row : List ℕ} {next : ℕ} → value (record { found = row; rest = drop next s }) ≡ readPosition c (drop at s) → RowsTo most c s from (rows ++ (row ∷ [])) next (n + 1)
-    rows-more {row} {next} h = record { reads = next-row lt le ∙ rw (← h) (above-above rows (row ∷ []) (positionRows (most - (n + 1)) c (drop next s))) }
+    rows-more {row} {next} h = record { reads = next-row lt le ∙ rw (← h) (above-above rows (row ∷ []) (positionLines (most - (n + 1)) c (drop next s))) }
 
 -- ---- the series of the position lines
 
@@ -449,8 +449,8 @@ series-coded true t ps = rw map-id
 series-coded false t ps = simp map-map
 
 module _ (c : Bool) (t : Terms) (s : Text) where
-  positions-by : (positionRows MOST_LINES c s >>= λ ps. value (seriesOf true t ps)) ≡ readPositions (record { terms = t; coded = c }) s
-  unfolding positionRows readPositions
+  positions-by : (positionLines MOST_LINES c s >>= λ ps. value (seriesOf true t ps)) ≡ readPositions (record { terms = t; coded = c }) s
+  unfolding positionLines readPositions
   positions-by = go (readRows MOST_LINES (lineWidth c) s)
     where
       go : (r : Result (List (List ℕ))) → ((r >>= λ ps. value (map (withCode c) ps)) >>= λ ps. value (seriesOf true t ps)) ≡ (r >>= λ ps. value (seriesOf c t ps))
@@ -458,11 +458,11 @@ module _ (c : Bool) (t : Terms) (s : Text) where
       go (value ps) = ap value (series-coded c t ps)
 
   -- they are refused
-  pub positions-refused : {n : ℕ} → refused n ≡ positionRows MOST_LINES c s → refused n ≡ readPositions (record { terms = t; coded = c }) s
+  pub positions-refused : {n : ℕ} → refused n ≡ positionLines MOST_LINES c s → refused n ≡ readPositions (record { terms = t; coded = c }) s
   positions-refused h = rw (← h) at positions-by
 
   -- they are the rows of three columns of one length
-  pub positions-all : {codes accounts shorts : List ℕ} → length accounts ≡ length codes → length shorts ≡ length codes → value (rowsOf (codes ∷ accounts ∷ shorts ∷ [])) ≡ positionRows MOST_LINES c s
+  pub positions-all : {codes accounts shorts : List ℕ} → length accounts ≡ length codes → length shorts ≡ length codes → value (rowsOf (codes ∷ accounts ∷ shorts ∷ [])) ≡ positionLines MOST_LINES c s
       → value (record { terms = t; codes = codes; accounts = accounts; shorts = shorts }) ≡ readPositions (record { terms = t; coded = c }) s
   positions-all {codes} {accounts} {shorts} la ls h =
       let rows = column-rows codes (accounts ∷ shorts ∷ []) in

@@ -1,16 +1,16 @@
 -- A text reads as its series whatever the spellings of its numbers, with the code column or without it, and so does what writing wrote: of the definitions, and of the two calls.
-use Prim.Native.Nat.{ℕ, _+_, _*_, _≤_}
+use Prim.Native.Nat.{ℕ, _+_, _*_, _≤_, _<_}
 use mathlib.Core.Path.{_≡_, refl, sym, ap, ap₂, _∙_}
 use mathlib.Core.Bool.{Bool, true, false, not, true≢false}
 use mathlib.Core.List.{List, [], _∷_, _++_, map, append-assoc}
 use native.Mathlib.Omega.{arith}
-use borrow.Author.Tests.{le-ltb, ltb-false, eq-eqb, eqb-true, not-false}
+use borrow.Author.Tests.{lt-ltb, le-ltb, ltb-false, eq-eqb, eqb-true, not-false}
 use lib.Dec.{eqb, ltb}
 use lib.ListN.{length, take, drop, length-append}
 use lib.Seq.{take-at}
 use Rattle.series.specs.Ascii.{ascii}
 use Rattle.series.specs.Outputs.{onto}
-use Rattle.series.specs.Results.{value, after, refuse}
+use Rattle.series.specs.Results.{value, after, refuse, refused}
 use Rattle.series.specs.Series.{Series, exercised, draw}
 use Rattle.series.specs.declared.Method.{Method}
 use Rattle.series.specs.declared.Terms.{Terms}
@@ -21,19 +21,14 @@ use Rattle.series_text.specs.Rows.{rowsOf}
 use Rattle.series_text.specs.Names.{line3, namesLine, headingOf, coded, afterLine, headingOr, readNames}
 use Rattle.series_text.specs.Letters.{letter, methodBy, methodOf}
 use Rattle.series_text.specs.Text.{MOST_BYTES, MOST_LINES, readTerms, readHead, lineWidth, seriesOf, readPositions, readText, writeTerms, writeHead, columns, textWith, sameNumbers, writesCodes, writeText}
+use Rattle.series_text.specs.Parts.{Columns, Plain}
 use Rattle.series_text.specs.Calls.{readingOf, readInto, handed, lineCount, headAndLines, writeInto, lengthOf}
 use Rattle.series_text.specs.declared.names.Heading.{Heading}
 use Rattle.series_text.specs.declared.Reading.{Reading}
 use Rattle.series_text.proofs.FieldLaws.{prefixed, field-byte, field-end, and-true-parts}
 use Rattle.series_text.proofs.RowLaws.{Fits, fits-none, fits-more, Figures, Each, fieldsLine, FieldsSpell, numbers-read, fields-read, row-spells, row-line, line-few, fieldsLines, LinesSpell, rows-read, rows-spell, rows-lines, lines-few, rows-fit}
-use Rattle.series_text.proofs.LengthLaws.{lines-known}
+use Rattle.series_text.proofs.LengthLaws.{even-columns, lines-known, lines-written}
 use Rattle.series_text.proofs.ColumnLaws.{length-rows, column-rows}
-
--- a code and a number of shorts for each account, and at most 1,024 accounts
-pub record Lists (t : Series) : Type 0 where
-  pub codes : length (t .codes) ≡ length (t .accounts)
-  pub shorts : length (t .shorts) ≡ length (t .accounts)
-  pub few : length (t .accounts) ≤ MOST_LINES
 
 -- what can be written: numbers of 32 bits, and at most 1,024 positions, a code, an account and its shorts each
 pub record Writable (t : Series) : Type 0 where
@@ -42,7 +37,7 @@ pub record Writable (t : Series) : Type 0 where
   pub codes : Fits (t .codes)
   pub accounts : Fits (t .accounts)
   pub shorts : Fits (t .shorts)
-  pub lists : Lists t
+  pub lists : Columns (t .codes) (t .accounts) (t .shorts)
 
 -- ---- line by line
 
@@ -108,16 +103,12 @@ head-back c t terms s so few =
 unfoldable pub spelledText : Bool → Method → List Text → List (List Text) → Text
 spelledText c m terms lines = spelledHead c m terms ++ fieldsLines lines
 
--- without the code column each code is its account
-abbrev pub Plain : Bool → Series → Type 0
-Plain c t = c ≡ false → t .codes ≡ t .accounts
-
 -- the fields spell the numbers of a series, with the code column or without it
 pub record TextSpells (c : Bool) (t : Series) (terms : List Text) (lines : List (List Text)) : Type 0 where
   pub values : FieldsSpell terms (exercised t ∷ draw t ∷ [])
   pub rows : LinesSpell (lineWidth c) lines (rowsOf (columns c t))
-  pub plain : Plain c t
-  pub lists : Lists t
+  pub plain : Plain c (t .codes) (t .accounts)
+  pub lists : Columns (t .codes) (t .accounts) (t .shorts)
 
 -- ---- the columns of a series
 
@@ -127,12 +118,12 @@ width-some true = omega arith
 width-some false = omega arith
 
 -- a row for each position
-position-rows : (c : Bool) (t : Series) → Lists t → length (rowsOf (columns c t)) ≡ length (t .accounts)
+position-rows : (c : Bool) (t : Series) → Columns (t .codes) (t .accounts) (t .shorts) → length (rowsOf (columns c t)) ≡ length (t .accounts)
 position-rows true t l = length-rows (t .codes) (t .accounts ∷ t .shorts ∷ []) ∙ l .codes
 position-rows false t l = length-rows (t .accounts) (t .shorts ∷ [])
 
 -- the series of the rows of its columns
-pub series-back : (c : Bool) (t : Series) → Plain c t → Lists t → seriesOf c (t .terms) (rowsOf (columns c t)) ≡ t
+pub series-back : (c : Bool) (t : Series) → Plain c (t .codes) (t .accounts) → Columns (t .codes) (t .accounts) (t .shorts) → seriesOf c (t .terms) (rowsOf (columns c t)) ≡ t
 series-back true t plain l =
     let at = column-rows (t .codes) (t .accounts ∷ t .shorts ∷ []) in
     rw (at 0 refl, at 1 (sym (l .codes)), at 2 (l .shorts ∙ sym (l .codes)))
@@ -178,7 +169,7 @@ columns-fit true t w = rows-fit (columns true t) (w .codes, (w .accounts, (w .sh
 columns-fit false t w = rows-fit (columns false t) (w .accounts, (w .shorts, tt))
 
 -- the digits spell its numbers
-written-spells : (c : Bool) (t : Series) → Plain c t → Writable t → TextSpells c t (writtenTerms t) (writtenLines c t)
+written-spells : (c : Bool) (t : Series) → Plain c (t .codes) (t .accounts) → Writable t → TextSpells c t (writtenTerms t) (writtenLines c t)
 written-spells c t plain w =
     let ns : List ℕ = exercised t ∷ draw t ∷ [] in
     let fits : Fits ns = fits-more (exercised t) (draw t ∷ []) (w .exercised) (fits-more (draw t) [] (w .draw) fits-none) in
@@ -190,7 +181,7 @@ unfolding textWith writeHead writeTerms spelledText spelledHead spelledTerms
 written-text c t = rw (row-line (exercised t ∷ draw t ∷ []), rows-lines (rowsOf (columns c t)))
 
 -- the text of a series reads as that series, with the code column or without it
-text-back : (c : Bool) (t : Series) → Plain c t → Writable t → length (textWith c t) ≤ MOST_BYTES → readText (textWith c t) ≡ value t
+pub text-back : (c : Bool) (t : Series) → Plain c (t .codes) (t .accounts) → Writable t → length (textWith c t) ≤ MOST_BYTES → readText (textWith c t) ≡ value t
 text-back c t plain w fits =
     let is = written-text c t in
     ap readText is ∙ any-spelling c t (writtenTerms t) (writtenLines c t) (written-spells c t plain w) (omega (arith, ap length is))
@@ -242,21 +233,16 @@ pub left-out-only : (t : Series) → Writable t → readText (textWith false t) 
 unfolding textWith
 left-out-only t w back =
     let u : Series = record { terms = t .terms; codes = t .accounts; accounts = t .accounts; shorts = t .shorts } in
-    let lists : Lists u = record { codes = refl; shorts = w .lists .shorts; few = w .lists .few } in
+    let lists : Columns (u .codes) (u .accounts) (u .shorts) = record { codes = refl; shorts = w .lists .shorts; few = w .lists .few } in
     let wu : Writable u = record { exercised = w .exercised; draw = w .draw; codes = w .accounts; accounts = w .accounts; shorts = w .shorts; lists = lists } in
     let same : u ≡ t = value-is (sym (left-out u wu (plain-codes u refl)) ∙ back) in
     plain-codes t (sym (ap (λ (s : Series). s .codes) same) ∙ ap (λ (s : Series). s .accounts) same)
 
 -- ---- the two calls
 
--- the lists of a series whose columns are as long as the first
-even-lists : (c : Bool) (t : Series) (n : ℕ) → Plain c t → Each (λ l. length l ≡ n) (columns c t) → n ≤ MOST_LINES → Lists t
-even-lists true t n plain each few = omega arith
-even-lists false t n plain each few = omega (arith, ap length (plain refl))
-
 -- what writing wrote, where it answers with a length
 record Wrote (t : Series) (room n : ℕ) : Type 0 where
-  lists : Lists t
+  lists : Columns (t .codes) (t .accounts) (t .shorts)
   fits : length (writeText t) ≤ MOST_BYTES
   is : writeInto t room ≡ value (writeText t)
   long : length (writeText t) ≡ n
@@ -275,11 +261,16 @@ wrote t room n e =
     let enough = not-refused (ltb room (length (most .from))) 4 (most .from) (o .from) (most .on) in
     let text : s ≡ o .from = known .text ∙ fits .1 ∙ enough .1 in
     record {
-      lists = even-lists c t (lineCount cs) (codes-plain t) (known .even) (known .few);
+      lists = even-columns c (t .codes) (t .accounts) (t .shorts) (lineCount cs) (codes-plain t) (known .even) (known .few);
       fits = omega (arith, ap length (known .text), ltb-false MOST_BYTES (length (body .from)) (fits .0));
       is = o .step ∙ ap value (sym text);
       long = ap length text ∙ value-is (o .on);
     }
+
+-- a text that would pass 32,768 bytes is refused whatever the output
+pub too-long : (t : Series) → Columns (t .codes) (t .accounts) (t .shorts) → MOST_BYTES < length (writeText t) → (room : ℕ) → writeInto t room ≡ refused 11
+unfolding writeInto writeText textWith
+too-long t l over room = rw (lines-written (writeHead (writesCodes t) (t .terms)) (writesCodes t) (t .codes) (t .accounts) (t .shorts) l, lt-ltb MOST_BYTES _ over)
 
 -- where writing answered Written n and left the output new, reading the first n bytes of it into three lists that are long enough
 -- answers with the same series, and the lists hold its positions and then what they held

@@ -20,6 +20,7 @@ use Rattle.series_text.specs.Fields.{Text, COMMA, Read, fieldBy, endBefo
 use Rattle.series_text.specs.Rows.{numbers, readRows, writeRow, writeRows, rowOf, rowsOf, column}
 use Rattle.series_text.specs.Names.{line1, line3, namesLine, headingOf, coded, afterLine, headingOr, readNames}
 use Rattle.series_text.specs.Letters.{letter, methodBy, methodOf}
+use Rattle.series_text.specs.Parts.{Columns, Plain}
 use Rattle.series_text.specs.Text.{MOST_BYTES, MOST_LINES, readTerms, Head, readHead, lineWidth, seriesOf, readPositions, readText, writeTerms, writeHead, columns, textWith, writesCodes, writeText}
 use Rattle.series_text.specs.declared.names.Heading.{Heading}
 use Rattle.series_text.proofs.NumberLaws.{padded, padded-length}
@@ -27,7 +28,7 @@ use Rattle.series_text.proofs.SpellingLaws.{Spells}
 use Rattle.series_text.proofs.RowLaws.{Fits, Each, each-so, Figures, Begins, field-is, fields-are, fieldsLine, FieldsSpell, numbers-are, spell-facts, fieldsLines, LinesSpell, spell-figures, Consists, rows-are, columnsFrom, rows-of-columns}
 use Rattle.series_text.proofs.ColumnLaws.{two-numbers}
 use Rattle.series_text.proofs.LengthLaws.{linesOf, lines-next-length, length-head}
-use Rattle.series_text.proofs.RoundTrip.{Lists, Writable, Plain, spelledTerms, spelledHead, spelledText, TextSpells, width-some, series-back, plain-codes, round-trip}
+use Rattle.series_text.proofs.RoundTrip.{Writable, spelledTerms, spelledHead, spelledText, TextSpells, width-some, series-back, plain-codes, round-trip}
 
 -- ---- a names line
 
@@ -153,8 +154,8 @@ pub record Reads (s : Text) (t : Series) : Type 0 where
 record OfRows (c : Bool) (t : Terms) (rows : List (List ℕ)) (r : Series) : Type 0 where
   terms : r .terms ≡ t
   columns : columns c r ≡ columnsFrom 0 (lineWidth c) rows
-  plain : Plain c r
-  lists : Lists r
+  plain : Plain c (r .codes) (r .accounts)
+  lists : Columns (r .codes) (r .accounts) (r .shorts)
 
 column-long : (j : ℕ) (rows : List (List ℕ)) → length (column j rows) ≡ length rows
 unfolding column
@@ -285,18 +286,18 @@ column-more d c cs e =
     rw e (lines-mono (rowOf (c ∷ cs)) (rowOf (d ∷ c ∷ cs)) (length c) (λ i. let row = rowOf (c ∷ cs) i in omega (arith, length-append (writeNumber (getD d i 0) (endBefore (length row))) (writeRow row))))
 
 -- the code column makes a text longer
-codes-longer : (t : Series) → Lists t → length (textWith false t) < length (textWith true t)
+codes-longer : (t : Series) → Columns (t .codes) (t .accounts) (t .shorts) → length (textWith false t) < length (textWith true t)
 unfolding textWith namesLine ascii
 codes-longer t l =
     let lines : Bool → Text = λ c. writeRows (rowsOf (columns c t)) in
     omega (arith, length-append (writeHead true (t .terms)) (lines true), length-append (writeHead false (t .terms)) (lines false), length-head true (t .terms), length-head false (t .terms), column-more (t .codes) (t .accounts) (t .shorts ∷ []) (l .codes))
 
 -- the form that is written is the shorter of those that read as the series
-form-shortest : (c : Bool) (t : Series) → Plain c t → Lists t → ShorterOrSame (writeText t) (textWith c t)
+form-shortest : (c : Bool) (t : Series) → Plain c (t .codes) (t .accounts) → Columns (t .codes) (t .accounts) (t .shorts) → ShorterOrSame (writeText t) (textWith c t)
 unfolding writeText
 form-shortest c t plain l = go c (writesCodes t) refl plain
   where
-    go : (c w : Bool) → writesCodes t ≡ w → Plain c t → ShorterOrSame (textWith w t) (textWith c t)
+    go : (c w : Bool) → writesCodes t ≡ w → Plain c (t .codes) (t .accounts) → ShorterOrSame (textWith w t) (textWith c t)
     go true true e plain = same-text (textWith true t)
     go false false e plain = same-text (textWith false t)
     go true false e plain = record { most = omega (arith, codes-longer t l); only = λ le. absurd (omega (arith, codes-longer t l)) }

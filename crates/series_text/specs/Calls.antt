@@ -57,7 +57,8 @@ linesInto head cs room = do
   lines ← headAndLines head cs
   refuse (ltb room (length lines)) 4 lines
 
--- writing a series to an output of length room: 1, then 15, then 11 where the text would pass 32,768 bytes, then 4
+-- writing a series to an output of length room: 1, then 15, then 11 where the text would pass 32,768 bytes, then 4.
+-- Codes of another length than the accounts are not the same numbers, so that their column stands among the others, and 1 is met
 unfoldable pub writeInto : Series → ℕ → Result Text
 writeInto t room = do
   s ← headAndLines (writeHead (writesCodes t) (t .terms)) (columns (writesCodes t) t)

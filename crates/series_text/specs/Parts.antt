@@ -109,3 +109,13 @@ positionsMean t codes accounts shorts (Positions.Refused r) = refused (numberOf 
 abbrev pub positionsWithin : Positions → Type 0
 positionsWithin (Positions.Read n) = n ≤ MOST_LINES
 positionsWithin (Positions.Refused r) = Unit {0}
+
+-- a code and a number of shorts for each account, and at most 1,024 accounts
+pub record Columns (codes′ accounts′ shorts′ : List ℕ) : Type 0 where
+  pub codes : length codes′ ≡ length accounts′
+  pub shorts : length shorts′ ≡ length accounts′
+  pub few : length accounts′ ≤ MOST_LINES
+
+-- without the code column each code is its account
+abbrev pub Plain : Bool → List ℕ → List ℕ → Type 0
+Plain c codes accounts = c ≡ false → codes ≡ accounts

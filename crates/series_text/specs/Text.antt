@@ -79,6 +79,7 @@ abbrev pub columnsBy : Bool → List ℕ → List ℕ → List ℕ → List (Lis
 columnsBy true codes accounts shorts = codes ∷ accounts ∷ shorts ∷ []
 columnsBy false codes accounts shorts = accounts ∷ shorts ∷ []
 
+-- those of a series
 abbrev pub columns : Bool → Series → List (List ℕ)
 columns c t = columnsBy c (t .codes) (t .accounts) (t .shorts)
 

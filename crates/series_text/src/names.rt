@@ -23,7 +23,7 @@ pub enum Names {
 // Line 1.
 pub const TERMS_NAMES: [u8; 22] = *b"method,exercised,draw\n";
 
-// Line 3.
+// Line 3 of a text without codes.
 pub const POSITION_NAMES: [u8; 14] = *b"account,short\n";
 
 // Line 3 of a text with codes.

@@ -21,12 +21,13 @@ use Rattle.series_text.specs.Names.{namesLine, headingOf}
 use Rattle.series_text.specs.Letters.{letter}
 use Rattle.series_text.specs.Text.{MOST_BYTES, MOST_LINES, writeTerms, writeHead, columnsBy, columns, sameNumbers, writesCodes}
 use Rattle.series_text.specs.declared.names.Heading.{Heading}
+use Rattle.series_text.specs.Parts.{Columns, Plain}
 use Rattle.series_text.specs.Calls.{evenly, lineCount, headAndLines, linesInto, writeInto, lengthOf}
-use Rattle.text_writing.specs.Parts.{Put, Columns, Uncoded, firstWritten}
+use Rattle.text_writing.specs.Parts.{Put, firstWritten}
 use Rattle.series.proofs.ResultLaws.{never, value-is, Stepped, stepped}
 use Rattle.series_text.proofs.RowLaws.{Each}
 use Rattle.series_text.proofs.RoundTrip.{same-numbers}
-use Rattle.series_text.proofs.LengthLaws.{linesOf, lines-all, even-each, LinesKnown, lines-known}
+use Rattle.series_text.proofs.LengthLaws.{linesOf, lines-all, even-each, count-by, columns-even, even-lengths, even-columns, LinesKnown, lines-known}
 use Rattle.text_writing.proofs.PutLaws.{placed-onto, put-append, put-byte}
 
 -- line 2: the letter and a comma, and then the row
@@ -73,16 +74,6 @@ first-few false k e = omega arith
 pub lines-by : (c : Bool) (codes accounts counts : List ℕ) (n : ℕ) → length codes ≡ length accounts → n ≡ length accounts → linesOf (rowOf (columnsBy c codes accounts counts)) n ≡ writeRows (rowsOf (columnsBy c codes accounts counts))
 lines-by true codes accounts counts n same e = lines-all codes (accounts ∷ counts ∷ []) n (e ∙ sym same)
 lines-by false codes accounts counts n same e = lines-all accounts (counts ∷ []) n e
-
-count-by : (c : Bool) (codes accounts counts : List ℕ) → length codes ≡ length accounts → lineCount (columnsBy c codes accounts counts) ≡ length accounts
-unfolding lineCount
-count-by true codes accounts counts same = same
-count-by false codes accounts counts same = refl
-
--- columns that the test finds even have one length
-even-columns : (c : Bool) (codes accounts counts : List ℕ) (n : ℕ) → Uncoded c codes accounts → Each (λ l. length l ≡ n) (columnsBy c codes accounts counts) → (length codes ≡ length accounts) × (length accounts ≡ length counts)
-even-columns true codes accounts counts n plain each = (omega arith, omega arith)
-even-columns false codes accounts counts n plain each = (ap length (plain refl), omega arith)
 
 -- ---- two lists of numbers, compared
 
@@ -139,9 +130,9 @@ pub record Measured (head : Text) (cs : List (List ℕ)) (n : ℕ) : Type 0 wher
 
 module _ (head : Text) (cs : List (List ℕ)) where
   -- a refusal is the answer, whatever would follow
-  pub still-refused : (n : ℕ) → refused n ≡ lengthOf (headAndLines head cs) → (f : Text → Result Text) → (headAndLines head cs >>= f) ≡ refused n
+  pub refusal-stays : (n : ℕ) → refused n ≡ lengthOf (headAndLines head cs) → (f : Text → Result Text) → (headAndLines head cs >>= f) ≡ refused n
   unfolding lengthOf
-  still-refused n e f = by-cases (headAndLines head cs) refl e
+  refusal-stays n e f = by-cases (headAndLines head cs) refl e
     where
       by-cases : (r : Result Text) → headAndLines head cs ≡ r → refused n ≡ (r >>= λ s. value (length s)) → (r >>= f) ≡ refused n
       by-cases (refused m) k h = let is : m ≡ n = cc in ap refused is
@@ -159,36 +150,29 @@ module _ (head : Text) (cs : List (List ℕ)) where
     measured = record { is = found .step ∙ ap value (sym (known .text)); bytes = sym (value-is (found .on)) ∙ ap length (sym (known .text)) }
 
 -- columns that were measured
-pub measured-columns : (head : Text) (c : Bool) (codes accounts counts : List ℕ) (n : ℕ) → Uncoded c codes accounts → value n ≡ lengthOf (headAndLines head (columnsBy c codes accounts counts)) → Columns codes accounts counts
+pub measured-columns : (head : Text) (c : Bool) (codes accounts counts : List ℕ) (n : ℕ) → Plain c codes accounts → value n ≡ lengthOf (headAndLines head (columnsBy c codes accounts counts)) → Columns codes accounts counts
 measured-columns head c codes accounts counts n plain e =
-    let cs : List (List ℕ) = columnsBy c codes accounts counts in
-    let k = known head cs n e in
-    let even = even-columns c codes accounts counts (lineCount cs) plain (k .even) in
-    record { coded = even .0; counted = even .1; few = omega (arith, k .few, count-by c codes accounts counts (even .0)) }
+    let k = known head (columnsBy c codes accounts counts) n e in
+    even-columns c codes accounts counts _ plain (k .even) (k .few)
 
 -- ---- how they are measured
 
-module _ (head : Text) (c : Bool) (codes accounts counts : List ℕ) (plain : Uncoded c codes accounts) where
+module _ (head : Text) (c : Bool) (codes accounts counts : List ℕ) (plain : Plain c codes accounts) where
   abbrev cs : List (List ℕ)
   cs = columnsBy c codes accounts counts
 
   -- the lengths differ
-  pub uneven : ((length codes ≡ length accounts) × (length accounts ≡ length counts) → ⊥) → refused 1 ≡ lengthOf (headAndLines head cs)
+  pub uneven : ((length codes ≡ length accounts) × (length counts ≡ length accounts) → ⊥) → refused 1 ≡ lengthOf (headAndLines head cs)
   unfolding headAndLines lengthOf
   uneven differ = by-cases (evenly (lineCount cs) cs) refl
     where
       by-cases : (t : Bool) → evenly (lineCount cs) cs ≡ t → refused 1 ≡ lengthOf (headAndLines head cs)
-      by-cases true e = absurd (differ (even-columns c codes accounts counts (lineCount cs) plain (even-each (lineCount cs) cs e)))
+      by-cases true e = absurd (differ (even-lengths c codes accounts counts (lineCount cs) plain (even-each (lineCount cs) cs e)))
       by-cases false e = rw e
 
   module _ (same : length codes ≡ length accounts) (beside : length accounts ≡ length counts) where
     even : evenly (lineCount cs) cs ≡ true
-    unfolding evenly
-    even = by-form c (count-by c codes accounts counts same)
-      where
-        by-form : (c : Bool) → lineCount (columnsBy c codes accounts counts) ≡ length accounts → evenly (lineCount (columnsBy c codes accounts counts)) (columnsBy c codes accounts counts) ≡ true
-        by-form true n = rw (n, eq-eqb (length codes) (length accounts) same, eq-eqb (length accounts) (length accounts) refl, eq-eqb (length counts) (length accounts) (sym beside))
-        by-form false n = rw (n, eq-eqb (length accounts) (length accounts) refl, eq-eqb (length counts) (length accounts) (sym beside))
+    even = columns-even c codes accounts counts same (sym beside)
 
     pub too-many : MOST_LINES < length accounts → refused 15 ≡ lengthOf (headAndLines head cs)
     unfolding headAndLines lengthOf
@@ -202,7 +186,7 @@ module _ (head : Text) (c : Bool) (codes accounts counts : List ℕ) (plain : Un
 
 -- a refusal of the columns
 pub leaves-refused : (head : Text) (cs : List (List ℕ)) (f : Text → Result Text) (old : Text) (n : ℕ) → refused n ≡ lengthOf (headAndLines head cs) → Leaves (headAndLines head cs >>= f) old (refused n) old
-leaves-refused head cs f old n e = leaves-kept (headAndLines head cs >>= f) old n (still-refused head cs n e f)
+leaves-refused head cs f old n e = leaves-kept (headAndLines head cs >>= f) old n (refusal-stays head cs n e f)
 
 module _ (head : Text) (cs : List (List ℕ)) (n : ℕ) (m : Measured head cs n) (old : Text) where
   -- the output is too short

@@ -1,10 +1,9 @@
 -- What the functions that put bytes promise.
-use Prim.Native.Nat.{ℕ, _+_, _≤_}
+use Prim.Native.Nat.{ℕ, _+_}
 use mathlib.Core.Path.{_≡_}
 use mathlib.Core.Bool.{Bool, true, false}
 use mathlib.Core.List.{List, _++_}
 use lib.ListN.{length, take, drop}
-use Rattle.series_text.specs.Text.{MOST_LINES}
 
 -- the list old with vs in the place of what stood from index at on
 unfoldable pub placed : List ℕ → ℕ → List ℕ → List ℕ
@@ -14,16 +13,6 @@ placed vs at old = take at old ++ vs ++ drop (at + length vs) old
 pub record Put (vs old : List ℕ) (at : ℕ) (new : List ℕ) (next : ℕ) : Type 0 where
   pub text : new ≡ placed vs at old
   pub after : next ≡ at + length vs
-
--- three columns of one length, of at most 1,024 numbers
-pub record Columns (codes accounts counts : List ℕ) : Type 0 where
-  pub coded : length codes ≡ length accounts
-  pub counted : length accounts ≡ length counts
-  pub few : length accounts ≤ MOST_LINES
-
--- without the code column the codes are the accounts
-abbrev pub Uncoded : Bool → List ℕ → List ℕ → Type 0
-Uncoded coded codes accounts = coded ≡ false → codes ≡ accounts
 
 -- the first column that is written of code, account and count: the code, or else the account
 abbrev pub firstWritten : Bool → ℕ

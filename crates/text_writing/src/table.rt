@@ -12,7 +12,8 @@ ghost use Rattle.series_text.specs.Rows.{writeRows, rowsOf};
 ghost use Rattle.series_text.specs.Text.{columnsBy};
 ghost use Rattle.series_text.specs.Calls.{headAndLines, lengthOf};
 ghost use Rattle.text_writing.specs.Answers.{writingOf};
-ghost use Rattle.text_writing.specs.Parts.{Put, Columns, Uncoded, firstWritten};
+ghost use Rattle.series_text.specs.Parts.{Columns, Plain};
+ghost use Rattle.text_writing.specs.Parts.{Put, firstWritten};
 
 // The first column that is written: of code, account and count.
 fn first_written(coded: bool) -> usize
@@ -66,7 +67,7 @@ fn put_rows(
 
 // The length of a head and the lines after it: 1 where the columns differ in length, then 15. Without the code column the codes are the accounts.
 pub fn measure(head: &[u8], coded: bool, codes: &[u32], accounts: &[u32], counts: &[u32]) -> Writing
-    requires { ⌜ Uncoded coded (now codes) (now accounts) ⌝ }
+    requires { ⌜ Plain coded (now codes) (now accounts) ⌝ }
     ensures { λ r. ⌜ writingOf r ≡ lengthOf (headAndLines (now (head .entry)) (columnsBy coded (now (codes .entry)) (now (accounts .entry)) (now (counts .entry)))) ⌝ }
 {
     if accounts.len() != counts.len() {

@@ -13,8 +13,6 @@ use Rattle.series_text.specs.Calls.{headAndLines, writeInto, lengthOf}
 use Rattle.series_text.proofs.LengthLaws.{head-room}
 use Rattle.series_text.proofs.RoundTrip.{same-numbers, codes-plain}
 use Rattle.text_writing.specs.Answers.{writingOf}
-
-
 use Rattle.text_writing.proofs.PutLaws.{put-taken}
 use Rattle.text_writing.proofs.WriteLaws.{measured, measured-columns, leaves-refused, text-long, text-short, text-put}
 use borrow.Author.Needs.{needs}

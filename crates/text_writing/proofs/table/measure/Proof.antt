@@ -1,4 +1,5 @@
 -- `table::measure` meets its contract: the lengths of the columns, and then that of the head and the lines.
+use mathlib.Core.Path.{sym}
 use native.Mathlib.Omega.{arith}
 use Rattle.text_writing.proofs.WriteLaws.{uneven, too-many, measure-all}
 use borrow.Author.Needs.{needs}
@@ -6,7 +7,7 @@ use Rattle.text_writing.proofs.table.measure.Statement.{statement}
 use Rattle.text_writing.proofs.table.measure.Tie as tie
 
 returns : tie.Need-returns
-returns c = let a = c .before .before .before .before .before .args in uneven (a .head .now) (a .coded) (a .codes .now) (a .accounts .now) (a .counts .now) (c .before .before .before .before .before .pre) (λ even. c .if1 .taken (even .1))
+returns c = let a = c .before .before .before .before .before .args in uneven (a .head .now) (a .coded) (a .codes .now) (a .accounts .now) (a .counts .now) (c .before .before .before .before .before .pre) (λ even. c .if1 .taken (sym (even .1)))
 
 returns-2 : tie.Need-returns-2
 returns-2 c = let a = c .before .before .before .before .before .before .args in uneven (a .head .now) (a .coded) (a .codes .now) (a .accounts .now) (a .counts .now) (c .before .before .before .before .before .before .pre) (λ even. c .if2 .taken (even .0))
@@ -15,7 +16,7 @@ returns-3 : tie.Need-returns-3
 returns-3 c = let a = c .before .before .before .before .before .before .before .args in too-many (a .head .now) (a .coded) (a .codes .now) (a .accounts .now) (a .counts .now) (c .before .before .before .before .before .before .before .pre) (c .before .if2 .left) (c .before .before .if1 .left) (c .if3 .taken)
 
 rows-length-requires : tie.Need-rows-length-requires
-rows-length-requires c κs = record { coded = c .before .if2 .left; counted = c .before .before .if1 .left; few = c .if3 .left }
+rows-length-requires c κs = record { codes = c .before .if2 .left; shorts = sym (c .before .before .if1 .left); few = c .if3 .left }
 
 add-t12 : tie.Need-add-t12
 add-t12 c = search needs

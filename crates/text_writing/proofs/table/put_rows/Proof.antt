@@ -29,7 +29,7 @@ rows s = rowOf (columnsBy (s .args .coded) (s .args .codes .now) (s .args .accou
 room : (s : tie.Start Inv-loop μ-loop) (i : ℕ) → i < length (s .args .accounts .now) → s .args .from + length (linesOf (rows s) (i + 1)) ≤ length (s .args .text .now)
 room s i lt =
     let a = s .args in
-    let all = ap length (lines-by (a .coded) (a .codes .now) (a .accounts .now) (a .counts .now) _ (s .pre .0 .coded) refl) in
+    let all = ap length (lines-by (a .coded) (a .codes .now) (a .accounts .now) (a .counts .now) _ (s .pre .0 .codes) refl) in
     omega (arith, lines-within (rows s) (i + 1) (length (a .accounts .now)) (omega arith), s .pre .1)
 
 first-written-requires : tie.Need-first-written-requires Inv-loop μ-loop
@@ -43,7 +43,7 @@ mul-t11 : tie.Need-mul-t11 Inv-loop μ-loop
 mul-t11 c = search needs
 
 shared-slice-read-t14 : tie.Need-shared-slice-read-t14 Inv-loop μ-loop
-shared-slice-read-t14 c = omega (arith, c .before .before .before .before .before .before .before .before .pre .0 .coded)
+shared-slice-read-t14 c = omega (arith, c .before .before .before .before .before .before .before .before .pre .0 .codes)
 
 mul-t15 : tie.Need-mul-t15 Inv-loop μ-loop
 mul-t15 c = search needs
@@ -55,7 +55,7 @@ mul-t18 : tie.Need-mul-t18 Inv-loop μ-loop
 mul-t18 c = search needs
 
 shared-slice-read-t20 : tie.Need-shared-slice-read-t20 Inv-loop μ-loop
-shared-slice-read-t20 c = omega (arith, c .before .before .before .before .before .before .before .before .before .before .pre .0 .counted)
+shared-slice-read-t20 c = omega (arith, c .before .before .before .before .before .before .before .before .before .before .pre .0 .shorts)
 
 mul-put-row : tie.Need-mul-put-row Inv-loop μ-loop
 mul-put-row c = omega (arith, first-few (c .before .before .before .before .before .before .before .before .before .before .before .args .coded) (c .before .before .before .before .before .before .first-written .result) (c .before .before .before .before .before .before .first-written .ensures))
@@ -85,7 +85,7 @@ same-length : tie.Need-same-length Inv-loop μ-loop
 same-length c = c .before .loop .inv .2
 
 returns : tie.Need-returns Inv-loop μ-loop
-returns c = let s = c .before .before .before .before .before .before .before in let a = s .args in let l = c .before .loop in rw (lines-by (a .coded) (a .codes .now) (a .accounts .now) (a .counts .now) (l .i) (s .pre .0 .coded) (omega arith)) at (l .inv .1)
+returns c = let s = c .before .before .before .before .before .before .before in let a = s .args in let l = c .before .loop in rw (lines-by (a .coded) (a .codes .now) (a .accounts .now) (a .counts .now) (l .i) (s .pre .0 .codes) (omega arith)) at (l .inv .1)
 
 pub put-rows-spec : {M : Type 1} → statement M
 put-rows-spec =

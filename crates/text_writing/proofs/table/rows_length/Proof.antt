@@ -29,7 +29,7 @@ mul-t9 : tie.Need-mul-t9 Inv-loop μ-loop
 mul-t9 c = search needs
 
 shared-slice-read-t12 : tie.Need-shared-slice-read-t12 Inv-loop μ-loop
-shared-slice-read-t12 c = omega (arith, c .before .before .before .before .before .before .before .pre .coded)
+shared-slice-read-t12 c = omega (arith, c .before .before .before .before .before .before .before .pre .codes)
 
 mul-t13 : tie.Need-mul-t13 Inv-loop μ-loop
 mul-t13 c = search needs
@@ -41,7 +41,7 @@ mul-t16 : tie.Need-mul-t16 Inv-loop μ-loop
 mul-t16 c = search needs
 
 shared-slice-read-t18 : tie.Need-shared-slice-read-t18 Inv-loop μ-loop
-shared-slice-read-t18 c = omega (arith, c .before .before .before .before .before .before .before .before .before .pre .counted)
+shared-slice-read-t18 c = omega (arith, c .before .before .before .before .before .before .before .before .before .pre .shorts)
 
 mul-row-length : tie.Need-mul-row-length Inv-loop μ-loop
 mul-row-length c = omega (arith, first-few (c .before .before .before .before .before .before .before .before .before .args .coded) (c .before .before .before .before .before .first-written .result) (c .before .before .before .before .before .first-written .ensures))
@@ -71,7 +71,7 @@ loop-again : tie.Need-loop-again Inv-loop μ-loop
 loop-again c = let a = c .before .before .before .before .before .before .before .before .before .before .before .before .args in let l = c .before .before .before .before .before .before .before .loop in let row = rw (row-written (a .coded) (a .codes .now) (a .accounts .now) (a .counts .now) (l .i) (c .before .before .before .before .before .before .before .before .first-written .result) (c .before .before .before .before .before .before .before .before .first-written .ensures)) at (c .row-length .ensures) in (omega arith, omega (arith, l .inv .1, row .0, lines-next-length (rowOf (columnsBy (a .coded) (a .codes .now) (a .accounts .now) (a .counts .now))) (l .i)), omega (arith, l .inv .2, row .1, row-short (a .coded) (a .codes .now) (a .accounts .now) (a .counts .now) (l .i)))
 
 returns : tie.Need-returns Inv-loop μ-loop
-returns c = let a = c .before .before .before .before .before .before .args in let l = c .before .loop in (l .inv .1 ∙ ap length (lines-by (a .coded) (a .codes .now) (a .accounts .now) (a .counts .now) (l .i) (c .before .before .before .before .before .before .pre .coded) (omega arith)), omega (arith, c .before .before .before .before .before .before .pre .few))
+returns c = let a = c .before .before .before .before .before .before .args in let l = c .before .loop in (l .inv .1 ∙ ap length (lines-by (a .coded) (a .codes .now) (a .accounts .now) (a .counts .now) (l .i) (c .before .before .before .before .before .before .pre .codes) (omega arith)), omega (arith, c .before .before .before .before .before .before .pre .few))
 
 pub rows-length-spec : {M : Type 1} → statement M
 rows-length-spec =

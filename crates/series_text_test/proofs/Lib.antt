@@ -1,0 +1,2 @@
+-- Texts at the limits of the definitions.
+pub mod LargestTexts
