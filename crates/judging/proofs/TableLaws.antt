@@ -18,7 +18,7 @@ use Rattle.series.specs.Lottery.{unstarted}
 use Rattle.series.specs.Refusals.{Row, _⟶_∣_, first, NoneApplies, lengthRows, roomRows, standsIn, accountRefused, positionRows, exercisedRows, outside, undrawn, drawRows, thenDrawRows, listRows, rows, verdict, listVerdict}
 use Rattle.series.specs.declared.Method.{Method}
 use Rattle.series.specs.declared.Terms.{Terms}
-use Rattle.judging.specs.Judged.{judgedOf, EvenList, walkTells, fallsLate}
+use Rattle.judging.specs.Judged.{judgedOf, judgedAfter, EvenList, walkTells, fallsLate}
 use Rattle.judging.specs.declared.Walk.{Walk}
 use Rattle.judging.specs.Chains.{downFrom, earlier}
 use Rattle.judging.proofs.ChainLaws.{above-all}
@@ -337,7 +337,7 @@ module _ (t : Terms) (T n : ℕ) where
 -- ---- the whole table
 
 -- the list's rows, and then those of what is exercised and of the draw, by the T that is handed on
-pub verdict-parts : (s : Series) (room : ℕ) → verdict s room ≡ first (listRows (method s) (order s) (s .accounts) (s .shorts) room) (held s) >>= (λ T. first (exercisedRows T (exercised s) ++ thenDrawRows (s .terms) T (length (s .shorts))) T)
+verdict-parts : (s : Series) (room : ℕ) → verdict s room ≡ judgedAfter (first (listRows (method s) (order s) (s .accounts) (s .shorts) room) (held s)) (s .terms) (length (s .shorts))
 unfolding verdict rows
 verdict-parts s room =
     first-append (listRows (method s) (order s) (s .accounts) (s .shorts) room) (exercisedRows (held s) (exercised s) ++ thenDrawRows (s .terms) (held s) (length (s .shorts))) (held s)
@@ -350,9 +350,7 @@ verdict-parts s room =
     handed-on (refused n) e = refl
     handed-on (value T) e = ap (λ x. first (below x) T) (value-same (listRows (method s) (order s) (s .accounts) (s .shorts) room) (held s) T e)
 
-module _ (s : Series) (room : ℕ) where
-  pub refused-list : (n : ℕ) → refused n ≡ first (listRows (method s) (order s) (s .accounts) (s .shorts) room) (held s) → refused n ≡ verdict s room
-  refused-list n e = sym (verdict-parts s room ∙ ap (λ r. r >>= (λ T. first (exercisedRows T (exercised s) ++ thenDrawRows (s .terms) T (length (s .shorts))) T)) (sym e))
-
-  pub judged-terms : (T : ℕ) (v : Result ℕ) → value T ≡ first (listRows (method s) (order s) (s .accounts) (s .shorts) room) (held s) → v ≡ first (exercisedRows T (exercised s) ++ thenDrawRows (s .terms) T (length (s .shorts))) T → v ≡ verdict s room
-  judged-terms T v e t = t ∙ sym (verdict-parts s room ∙ ap (λ r. r >>= (λ T. first (exercisedRows T (exercised s) ++ thenDrawRows (s .terms) T (length (s .shorts))) T)) (sym e))
+-- a list that is judged, and then what is exercised and the draw
+pub judged-parts : (s : Series) (room : ℕ) (v list : Result ℕ) → list ≡ first (listRows (method s) (order s) (s .accounts) (s .shorts) room) (held s)
+    → v ≡ judgedAfter list (s .terms) (length (s .shorts)) → v ≡ verdict s room
+judged-parts s room v list e after = after ∙ ap (λ r. judgedAfter r (s .terms) (length (s .shorts))) e ∙ sym (verdict-parts s room)

@@ -1,14 +1,15 @@
 -- What judging answers, and what a judged series has.
 use Prim.Native.Nat.{ℕ, _≤_, _<_}
 use mathlib.Core.Path.{_≡_}
-use mathlib.Core.List.{List, []}
+use mathlib.Core.List.{List, [], _++_}
 use lib.ListN.{length}
-use Rattle.series.specs.Results.{Result, refused, value}
+use Rattle.series.specs.Results.{Result, refused, value, _>>=_}
 use Rattle.series.specs.Places.{total}
 use Rattle.series.specs.Series.{MOST_CONTRACTS, MOST_POSITIONS}
-use Rattle.series.specs.Refusals.{first, positionRows, listRows}
+use Rattle.series.specs.Refusals.{first, positionRows, listRows, exercisedRows, thenDrawRows}
 use Rattle.series.specs.Answers.{numberOf}
 use Rattle.series.specs.declared.Method.{Method}
+use Rattle.series.specs.declared.Terms.{Terms}
 use Rattle.judging.specs.declared.Judged.{Judged}
 use Rattle.judging.specs.declared.Walk.{Walk}
 
@@ -16,6 +17,10 @@ use Rattle.judging.specs.declared.Walk.{Walk}
 abbrev pub judgedOf : Judged → Result ℕ
 judgedOf (Judged.Accepted T) = value (T .0)
 judgedOf (Judged.Refused r) = refused (numberOf r)
+
+-- what is exercised and the draw, judged after a list of n positions: its refusal stands
+abbrev pub judgedAfter : Result ℕ → Terms → ℕ → Result ℕ
+judgedAfter list t n = list >>= (λ T. first (exercisedRows T (t .exercised .0) ++ thenDrawRows t T n) T)
 
 -- a list whose lengths are judged; order is what it rises by
 pub record EvenList (order accounts shorts : List ℕ) : Type 0 where

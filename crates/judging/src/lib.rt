@@ -16,7 +16,7 @@ ghost use Rattle.series.specs.Refusals.{first, positionRows, listRows, exercise
 ghost use Rattle.series.specs.Series.{orderedBy};
 ghost use Rattle.series.specs.Answers.{numberOf};
 ghost use Rattle.series.specs.declared.Method.{Method as Method·};
-ghost use Rattle.judging.specs.Judged.{judgedOf, walkTells, fallsOnly, fallsLate, EvenList};
+ghost use Rattle.judging.specs.Judged.{judgedOf, judgedAfter, walkTells, fallsOnly, fallsLate, EvenList};
 ghost use Rattle.judging.specs.Chains.{Linked};
 
 // An accepted list with its total T, or the first refusal that applies.
@@ -253,23 +253,29 @@ fn judge_terms(terms: Terms, total: Contracts, positions: usize) -> Judged
     judge_draw(terms, total)
 }
 
+// A judged list, and then what is exercised of it and the draw.
+fn judge_after(terms: Terms, listed: Judged, positions: usize) -> Judged
+    ensures { λ r. ⌜ judgedOf r ≡ judgedAfter (judgedOf listed) terms positions ⌝ }
+{
+    match listed {
+        Judged::Refused(refusal) => Judged::Refused(refusal),
+        Judged::Accepted(total) => judge_terms(terms, total, positions),
+    }
+}
+
 // Judges a whole call; room is the length of its output.
 pub fn judge(terms: Terms, codes: &[u32], accounts: &[u32], shorts: &[u32], room: usize) -> Judged
     ensures { λ r. ⌜ judgedOf r ≡ verdict (record { terms = terms; codes = now (codes .entry); accounts = now (accounts .entry); shorts = now (shorts .entry) }) room ⌝ }
 {
     let method = terms.method;
-    match judge_by(method, codes, accounts, shorts, room) {
-        Judged::Refused(refusal) => Judged::Refused(refusal),
-        Judged::Accepted(total) => judge_terms(terms, total, shorts.len()),
-    }
+    let listed = judge_by(method, codes, accounts, shorts, room);
+    judge_after(terms, listed, shorts.len())
 }
 
 // Judges a whole call of a series whose codes are its accounts. Under P and L that is the verdict for any codes.
 pub fn judge_uncoded(terms: Terms, accounts: &[u32], shorts: &[u32], room: usize) -> Judged
     ensures { λ r. ⌜ judgedOf r ≡ verdict (record { terms = terms; codes = now (accounts .entry); accounts = now (accounts .entry); shorts = now (shorts .entry) }) room ⌝ }
 {
-    match judge_by_account(accounts, shorts, room) {
-        Judged::Refused(refusal) => Judged::Refused(refusal),
-        Judged::Accepted(held) => judge_terms(terms, held, shorts.len()),
-    }
+    let listed = judge_by_account(accounts, shorts, room);
+    judge_after(terms, listed, shorts.len())
 }

@@ -5,9 +5,9 @@ use mathlib.Core.List.{List, [], _∷_, _++_, map, map-append}
 use native.Mathlib.Omega.{arith}
 use native.Mathlib.Numerals.{add-one}
 use lib.ListN.{length, getD, take, set, length-append, List·getD-append, List·getD-map}
-use lib.Seq.{ext-getD, getD-at, length-take-le, take-suc-set}
+use lib.Seq.{getD-at, length-take-le, take-suc-set}
 use Rattle.series.specs.Sums.{listed}
-use Rattle.series.proofs.SumLaws.{length-listed, listed-cong, getD-listed}
+use Rattle.series.proofs.SumLaws.{length-listed, listed-cong}
 use Rattle.series_text.specs.Rows.{rowOf, rowsOf, column}
 
 -- as many rows as the first column has numbers
@@ -22,10 +22,16 @@ unfolding listed
 map-listed f g zero = refl
 map-listed f g (suc n) = map-append f (listed g n) (g n ∷ []) ∙ ap (λ l. l ++ (f (g n) ∷ [])) (map-listed f g n)
 
-listed-all : (xs : List ℕ) → listed (λ i. getD xs i 0) (length xs) ≡ xs
-listed-all xs =
-    let e = length-listed (λ i. getD xs i 0) (length xs) in
-    ext-getD 0 (listed (λ i. getD xs i 0) (length xs)) xs e (λ i lt. getD-listed (λ i. getD xs i 0) (length xs) i (omega arith))
+listed-head : {A : Type 0} (f : ℕ → A) (n : ℕ) → listed f (suc n) ≡ f 0 ∷ listed (λ i. f (suc i)) n
+unfolding listed
+listed-head f zero = refl
+listed-head f (suc n) = ap (λ (l : List _). l ++ (f (suc n) ∷ [])) (listed-head f n)
+
+-- a list is its elements, one by one
+pub listed-all : {A : Type 0} (d : A) (xs : List A) → listed (λ i. getD xs i d) (length xs) ≡ xs
+unfolding listed
+listed-all d [] = refl
+listed-all {A} d (x ∷ xs) = listed-head (λ i. getD (x ∷ xs) i d) (length xs) ∙ ap (λ (l : List A). x ∷ l) (listed-all d xs)
 
 -- column j of the rows, where it is as long as the first
 pub column-rows : (c : List ℕ) (cs : List (List ℕ)) (j : ℕ) → length (getD (c ∷ cs) j []) ≡ length c → column j (rowsOf (c ∷ cs)) ≡ getD (c ∷ cs) j []
@@ -33,7 +39,7 @@ unfolding column rowsOf
 column-rows c cs j long =
     map-listed (λ r. getD r j 0) (rowOf (c ∷ cs)) (length c)
     ∙ listed-cong (λ i. getD (rowOf (c ∷ cs) i) j 0) (λ i. getD (getD (c ∷ cs) j []) i 0) (length c) (λ i lt. List·getD-map (λ d. getD d i 0) (c ∷ cs) j [])
-    ∙ rw (← long) (listed-all (getD (c ∷ cs) j []))
+    ∙ rw (← long) (listed-all 0 (getD (c ∷ cs) j []))
 
 -- ---- one row more
 
@@ -76,7 +82,7 @@ rows-longer n c cs (x ∷ row) l e =
 
 -- the numbers of a row, by their columns
 numbers-by : (k : ℕ) (row : List ℕ) → length row ≡ k → listed (λ j. getD row j 0) k ≡ row
-numbers-by k row e = rw (← e) (listed-all row)
+numbers-by k row e = rw (← e) (listed-all 0 row)
 
 pub two-numbers : (row : List ℕ) → length row ≡ 2 → getD row 0 0 ∷ getD row 1 0 ∷ [] ≡ row
 unfolding listed

@@ -16,6 +16,7 @@ use Rattle.series.proofs.SumLaws.{listed-cong}
 use Rattle.series_text.specs.Numbers.{LARGEST, MOST_DIGITS, digits, number, decimal}
 use Rattle.series_text.specs.Fields.{Text, Read, ends, field, past, fieldBy, endBefore, readFields, writeNumber}
 use Rattle.series_text.specs.Rows.{numbers, readRow, readRows, writeRow, writeRows, rowOf, rowsOf, column}
+use Rattle.series_text.proofs.ColumnLaws.{listed-all}
 use Rattle.series_text.proofs.DecimalLaws.{digits-few}
 use Rattle.series_text.proofs.NumberLaws.{field-spelled}
 use Rattle.series_text.proofs.SpellingLaws.{Spells, number-is, spells-reads, spells-digits, decimal-spells}
@@ -352,17 +353,6 @@ rows-each P (c ∷ cs) h = each-listed P (rowOf (c ∷ cs)) (length c) h
 pub rows-fit : (cs : List (List ℕ)) → Each Fits cs → Each (Figures (length cs)) (rowsOf cs)
 rows-fit cs each = rows-each (Figures (length cs)) cs (λ i. fits-row cs i each)
 
-listed-head : {A : Type 0} (f : ℕ → A) (n : ℕ) → listed f (suc n) ≡ f 0 ∷ listed (λ i. f (suc i)) n
-unfolding listed
-listed-head f zero = refl
-listed-head f (suc n) = ap (λ (l : List _). l ++ (f (suc n) ∷ [])) (listed-head f n)
-
--- the rows one by one
-listed-rows : (rows : List (List ℕ)) → listed (λ i. getD rows i []) (length rows) ≡ rows
-unfolding listed
-listed-rows [] = refl
-listed-rows (r ∷ rows) = listed-head (λ i. getD (r ∷ rows) i []) (length rows) ∙ ap (λ (l : List (List ℕ)). r ∷ l) (listed-rows rows)
-
 -- k columns of the rows, from column j on
 unfoldable pub columnsFrom : ℕ → ℕ → List (List ℕ) → List (List ℕ)
 columnsFrom j zero rows = []
@@ -382,4 +372,4 @@ rows-of-columns zero rows some each = absurd (omega arith)
 rows-of-columns (suc k) rows some each =
     rw (length-map rows (λ r. getD r 0 0))
     (listed-cong (rowOf (columnsFrom 0 (suc k) rows)) (λ i. getD rows i []) (length rows) (λ i lt. row-of-columns 0 (suc k) rows i (each-at (λ r. length r ≡ suc k) rows [] i each lt ∙ omega arith))
-    ∙ listed-rows rows)
+    ∙ listed-all [] rows)

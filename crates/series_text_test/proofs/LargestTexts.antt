@@ -2,9 +2,9 @@
 use Prim.Native.Nat.{ℕ}
 use mathlib.Core.Path.{_≡_, refl}
 use mathlib.Core.List.{List, [], _∷_, _++_, map}
-use lib.ListN.{length, replicate}
+use lib.ListN.{replicate}
 use Rattle.series.specs.Ascii.{ascii}
-use Rattle.series.specs.Results.{Result, refused, value, status}
+use Rattle.series.specs.Results.{refused, value, status}
 use Rattle.series.specs.Series.{Series}
 use Rattle.series.specs.Sums.{listed}
 use Rattle.series.specs.declared.Method.{Method}

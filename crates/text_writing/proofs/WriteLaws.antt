@@ -25,7 +25,6 @@ use Rattle.series_text.specs.Parts.{Columns, Plain}
 use Rattle.series_text.specs.Calls.{evenly, lineCount, headAndLines, linesInto, writeInto, lengthOf}
 use Rattle.text_writing.specs.Parts.{Put, firstWritten}
 use Rattle.series.proofs.ResultLaws.{never, value-is, Stepped, stepped}
-use Rattle.series_text.proofs.RowLaws.{Each}
 use Rattle.series_text.proofs.RoundTrip.{same-numbers}
 use Rattle.series_text.proofs.LengthLaws.{linesOf, lines-all, even-each, count-by, columns-even, even-lengths, even-columns, LinesKnown, lines-known}
 use Rattle.text_writing.proofs.PutLaws.{placed-onto, put-append, put-byte}
