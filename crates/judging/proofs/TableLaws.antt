@@ -166,20 +166,20 @@ pub left-enough : (n left : ℕ) → (eqb n 0 || ltb left n) ≡ false → n ≤
 left-enough n left e = ltb-false left n (or-false (eqb n 0) (ltb left n) e .1)
 
 -- an account that is above 0 and not among the earlier ones is not refused, whatever the method
-pub new-account : (m : Method) (a : ℕ) (before : List ℕ) → (a ≡ 0 → ⊥) → standsIn a before ≡ false → accountRefused m before a ≡ false
+new-account : (m : Method) (a : ℕ) (before : List ℕ) → (a ≡ 0 → ⊥) → standsIn a before ≡ false → accountRefused m before a ≡ false
 unfolding accountRefused
 new-account Method.Wheel a before some new = rw (ne-eqb a 0 some) new
 new-account Method.ProRata a before some new = refl
 new-account Method.Lottery a before some new = refl
 
--- under W account 0 is refused, and so is one that stands earlier
+-- under W account 0 is refused, and any other is looked up
 pub no-account : (a : ℕ) (before : List ℕ) → a ≡ 0 → accountRefused Method.Wheel before a ≡ true
 unfolding accountRefused
 no-account a before e = rw (eq-eqb a 0 e)
 
-pub old-account : (a : ℕ) (before : List ℕ) → standsIn a before ≡ true → accountRefused Method.Wheel before a ≡ true
+pub looked-up : (a : ℕ) (before : List ℕ) → (a ≡ 0 → ⊥) → standsIn a before ≡ accountRefused Method.Wheel before a
 unfolding accountRefused
-old-account a before e = or-true (eqb a 0) (standsIn a before) e
+looked-up a before some = rw (ne-eqb a 0 some)
 
 -- ---- while the accounts rise
 

@@ -7,17 +7,19 @@ use series::Contracts;
 use series::Method;
 use series::Refusal;
 use series::Terms;
+ghost use Prim.Native.Nat.{_<_};
 ghost use mathlib.Core.Path.{_≡_};
 ghost use mathlib.Core.Bool.{not, _||_, cond};
 ghost use mathlib.Core.List.{[], _++_};
 ghost use lib.Dec.{eqb, ltb};
+ghost use lib.ListN.{length, getD};
 ghost use Rattle.series.specs.Places.{total as totalOf};
-ghost use Rattle.series.specs.Refusals.{first, positionRows, listRows, exercisedRows, outside, undrawn, drawRows, thenDrawRows, verdict, listVerdict};
+ghost use Rattle.series.specs.Refusals.{first, accountRefused, positionRows, listRows, exercisedRows, outside, undrawn, drawRows, thenDrawRows, verdict, listVerdict};
 ghost use Rattle.series.specs.Series.{orderedBy};
 ghost use Rattle.series.specs.Answers.{numberOf};
 ghost use Rattle.series.specs.declared.Method.{Method as Method·};
 ghost use Rattle.judging.specs.Judged.{judgedOf, judgedAfter, walkTells, fallsOnly, fallsLate, EvenList};
-ghost use Rattle.judging.specs.Chains.{Linked};
+ghost use Rattle.judging.specs.Chains.{earlier, Linked};
 
 // An accepted list with its total T, or the first refusal that applies.
 pub enum Judged {
@@ -80,6 +82,22 @@ fn judge_rising(order: &[u32], accounts: &[u32], shorts: &[u32]) -> Walk
     Walk::Judged(Judged::Accepted(Contracts(10_000_000 - left)))
 }
 
+// Whether the account of a position is 0 or stands earlier in the list.
+fn is_account_refused(
+    accounts: &[u32],
+    position: usize,
+    head: &[u16; 4096],
+    next: &[u16; 4096],
+) -> bool
+    requires { ⌜ (position < length (now accounts)) × Linked (now accounts) (now head) (now next) position ⌝ }
+    ensures { λ r. ⌜ r ≡ accountRefused Method·.Wheel (earlier (now (accounts .entry)) position) (getD (now (accounts .entry)) position 0) ⌝ }
+{
+    if accounts[position] == 0 {
+        return true;
+    }
+    stands_earlier(accounts, position, head, next)
+}
+
 // The list under W, each position in turn, its accounts in any order: they are looked up in chains.
 fn judge_chained(
     codes: &[u32],
@@ -97,13 +115,11 @@ fn judge_chained(
     while i < shorts.len() {
         let code = codes[i];
         let count = shorts[i];
+        let repeated = is_account_refused(accounts, i, head, next);
         if code <= before {
             return Judged::Refused(Refusal::OutOfOrder);
         }
-        if accounts[i] == 0 {
-            return Judged::Refused(Refusal::AccountRepeated);
-        }
-        if stands_earlier(accounts, i, head, next) {
+        if repeated {
             return Judged::Refused(Refusal::AccountRepeated);
         }
         if is_refused(count, left) {

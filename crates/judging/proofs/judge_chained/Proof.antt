@@ -8,7 +8,7 @@ use borrow.Author.Needs.{needs}
 use Rattle.series.specs.Results.{refused}
 use Rattle.series.specs.declared.Method.{Method}
 use Rattle.judging.specs.Chains.{Linked}
-use Rattle.judging.proofs.TableLaws.{Judging, judging-start, new-account, no-account, old-account, refused-order, refused-account, refused-shorts, left-enough, judging-next, judged-all}
+use Rattle.judging.proofs.TableLaws.{Judging, judging-start, refused-order, refused-account, refused-shorts, left-enough, judging-next, judged-all}
 use Rattle.judging.proofs.judge_chained.Statement.{statement}
 use Rattle.judging.proofs.judge_chained.Tie as tie
 
@@ -33,23 +33,14 @@ mul-count c = search needs
 shared-slice-read-count : tie.Need-shared-slice-read-count Inv-loop μ-loop
 shared-slice-read-count c = search needs
 
+is-account-refused-requires : tie.Need-is-account-refused-requires Inv-loop μ-loop
+is-account-refused-requires c κs = (omega (arith, c .before .before .before .before .loop-test .taken, c .before .before .before .before .before .before .before .before .before .pre .0 .lengths), c .before .before .before .before .before .loop .inv .1)
+
 returns : tie.Need-returns Inv-loop μ-loop
-returns c = let a = c .before .before .before .before .before .before .before .before .args in let l = c .before .before .before .before .loop in refused-order Method.Wheel (a .codes .now) (a .accounts .now) (a .shorts .now) (c .before .before .before .before .before .before .before .before .pre .0) (l .before) (l .left) (l .i) (l .inv .0) (c .before .before .before .loop-test .taken) (c .if1 .taken)
-
-mul-if2 : tie.Need-mul-if2 Inv-loop μ-loop
-mul-if2 c = search needs
-
-shared-slice-read-if2 : tie.Need-shared-slice-read-if2 Inv-loop μ-loop
-shared-slice-read-if2 c = omega (arith, c .before .before .before .before .before .before .before .before .before .pre .0 .lengths)
+returns c = let a = c .before .before .before .before .before .before .before .before .before .before .before .args in let l = c .before .before .before .before .before .before .before .loop in refused-order Method.Wheel (a .codes .now) (a .accounts .now) (a .shorts .now) (c .before .before .before .before .before .before .before .before .before .before .before .pre .0) (l .before) (l .left) (l .i) (l .inv .0) (c .before .before .before .before .before .before .loop-test .taken) (c .if1 .taken)
 
 returns-2 : tie.Need-returns-2 Inv-loop μ-loop
-returns-2 c = let a = c .before .before .before .before .before .before .before .before .before .before .args in let l = c .before .before .before .before .before .before .loop in refused-account Method.Wheel (a .codes .now) (a .accounts .now) (a .shorts .now) (c .before .before .before .before .before .before .before .before .before .before .pre .0) (l .before) (l .left) (l .i) (l .inv .0) (c .before .before .before .before .before .loop-test .taken) (c .before .before .if1 .left) (no-account _ _ (c .if2 .taken))
-
-stands-earlier-requires : tie.Need-stands-earlier-requires Inv-loop μ-loop
-stands-earlier-requires c κs = (omega (arith, c .before .before .before .before .before .before .before .loop-test .taken, c .before .before .before .before .before .before .before .before .before .before .before .before .pre .0 .lengths), c .before .before .before .before .before .before .before .before .loop .inv .1)
-
-returns-3 : tie.Need-returns-3 Inv-loop μ-loop
-returns-3 c = let a = c .before .before .before .before .before .before .before .before .before .before .before .before .before .before .args in let l = c .before .before .before .before .before .before .before .before .before .before .loop in refused-account Method.Wheel (a .codes .now) (a .accounts .now) (a .shorts .now) (c .before .before .before .before .before .before .before .before .before .before .before .before .before .before .pre .0) (l .before) (l .left) (l .i) (l .inv .0) (c .before .before .before .before .before .before .before .before .before .loop-test .taken) (c .before .before .before .before .before .before .if1 .left) (old-account _ _ (sym (c .before .stands-earlier .ensures) ∙ c .if3 .taken))
+returns-2 c = let a = c .before .before .before .before .before .before .before .before .before .before .before .before .args in let l = c .before .before .before .before .before .before .before .before .loop in refused-account Method.Wheel (a .codes .now) (a .accounts .now) (a .shorts .now) (c .before .before .before .before .before .before .before .before .before .before .before .before .pre .0) (l .before) (l .left) (l .i) (l .inv .0) (c .before .before .before .before .before .before .before .loop-test .taken) (c .before .if1 .left) (sym (c .before .before .is-account-refused .ensures) ∙ c .if2 .taken)
 
 is-refused-requires : tie.Need-is-refused-requires Inv-loop μ-loop
 is-refused-requires c κs = search needs
@@ -57,29 +48,29 @@ is-refused-requires c κs = search needs
 refuse-shorts-requires : tie.Need-refuse-shorts-requires Inv-loop μ-loop
 refuse-shorts-requires c κs = search needs
 
-returns-4 : tie.Need-returns-4 Inv-loop μ-loop
-returns-4 c = let a = c .before .before .before .before .before .before .before .before .before .before .before .before .before .before .before .before .before .args in let l = c .before .before .before .before .before .before .before .before .before .before .before .before .before .loop in ap refused (c .refuse-shorts .ensures) ∙ refused-shorts Method.Wheel (a .codes .now) (a .accounts .now) (a .shorts .now) (c .before .before .before .before .before .before .before .before .before .before .before .before .before .before .before .before .before .pre .0) (l .before) (l .left) (l .i) (l .inv .0) (c .before .before .before .before .before .before .before .before .before .before .before .before .loop-test .taken) (c .before .before .before .before .before .before .before .before .before .if1 .left) (new-account Method.Wheel _ _ (c .before .before .before .before .before .before .before .if2 .left) (sym (c .before .before .before .before .stands-earlier .ensures) ∙ c .before .before .before .if3 .left)) (sym (c .before .before .is-refused .ensures) ∙ c .before .if4 .taken)
+returns-3 : tie.Need-returns-3 Inv-loop μ-loop
+returns-3 c = let a = c .before .before .before .before .before .before .before .before .before .before .before .before .before .before .before .args in let l = c .before .before .before .before .before .before .before .before .before .before .before .loop in ap refused (c .refuse-shorts .ensures) ∙ refused-shorts Method.Wheel (a .codes .now) (a .accounts .now) (a .shorts .now) (c .before .before .before .before .before .before .before .before .before .before .before .before .before .before .before .pre .0) (l .before) (l .left) (l .i) (l .inv .0) (c .before .before .before .before .before .before .before .before .before .before .loop-test .taken) (c .before .before .before .before .if1 .left) (sym (c .before .before .before .before .before .is-account-refused .ensures) ∙ c .before .before .before .if2 .left) (sym (c .before .before .is-refused .ensures) ∙ c .before .if3 .taken)
 
 link-requires : tie.Need-link-requires Inv-loop μ-loop
-link-requires c κs = (omega (arith, c .before .before .before .before .before .before .before .before .before .before .before .before .before .loop-test .taken, c .before .before .before .before .before .before .before .before .before .before .before .before .before .before .before .before .before .before .pre .0 .lengths), omega (arith, c .before .before .before .before .before .before .before .before .before .before .before .before .before .loop-test .taken, c .before .before .before .before .before .before .before .before .before .before .before .before .before .before .before .before .before .before .pre .0 .few), c .before .before .before .before .before .before .before .before .before .before .before .before .before .before .loop .inv .1)
+link-requires c κs = (omega (arith, c .before .before .before .before .before .before .before .before .before .before .before .loop-test .taken, c .before .before .before .before .before .before .before .before .before .before .before .before .before .before .before .before .pre .0 .lengths), omega (arith, c .before .before .before .before .before .before .before .before .before .before .before .loop-test .taken, c .before .before .before .before .before .before .before .before .before .before .before .before .before .before .before .before .pre .0 .few), c .before .before .before .before .before .before .before .before .before .before .before .before .loop .inv .1)
 
 sub-left : tie.Need-sub-left Inv-loop μ-loop
-sub-left c = left-enough _ _ (sym (c .before .before .before .before .is-refused .ensures) ∙ c .before .before .before .if4 .left)
+sub-left c = left-enough _ _ (sym (c .before .before .before .before .is-refused .ensures) ∙ c .before .before .before .if3 .left)
 
 add-i : tie.Need-add-i Inv-loop μ-loop
 add-i c = search needs
 
 loop-less : tie.Need-loop-less Inv-loop μ-loop
-loop-less c = omega (arith, c .before .before .before .before .before .before .before .before .before .before .before .before .before .before .loop-test .taken)
+loop-less c = omega (arith, c .before .before .before .before .before .before .before .before .before .before .before .before .loop-test .taken)
 
 loop-again : tie.Need-loop-again Inv-loop μ-loop
-loop-again c = let a = c .before .before .before .before .before .before .before .before .before .before .before .before .before .before .before .before .before .before .before .args in let l = c .before .before .before .before .before .before .before .before .before .before .before .before .before .before .before .loop in (judging-next Method.Wheel (a .codes .now) (a .accounts .now) (a .shorts .now) (c .before .before .before .before .before .before .before .before .before .before .before .before .before .before .before .before .before .before .before .pre .0) (l .before) (l .left) (l .i) (l .inv .0) (c .before .before .before .before .before .before .before .before .before .before .before .before .before .before .loop-test .taken) (c .before .before .before .before .before .before .before .before .before .before .before .if1 .left) (new-account Method.Wheel _ _ (c .before .before .before .before .before .before .before .before .before .if2 .left) (sym (c .before .before .before .before .before .before .stands-earlier .ensures) ∙ c .before .before .before .before .before .if3 .left)) (sym (c .before .before .before .before .is-refused .ensures) ∙ c .before .before .before .if4 .left), rw (add-one (l .i)) (c .link .ensures))
+loop-again c = let a = c .before .before .before .before .before .before .before .before .before .before .before .before .before .before .before .before .before .args in let l = c .before .before .before .before .before .before .before .before .before .before .before .before .before .loop in (judging-next Method.Wheel (a .codes .now) (a .accounts .now) (a .shorts .now) (c .before .before .before .before .before .before .before .before .before .before .before .before .before .before .before .before .before .pre .0) (l .before) (l .left) (l .i) (l .inv .0) (c .before .before .before .before .before .before .before .before .before .before .before .before .loop-test .taken) (c .before .before .before .before .before .before .if1 .left) (sym (c .before .before .before .before .before .before .before .is-account-refused .ensures) ∙ c .before .before .before .before .before .if2 .left) (sym (c .before .before .before .before .is-refused .ensures) ∙ c .before .before .before .if3 .left), rw (add-one (l .i)) (c .link .ensures))
 
-sub-t28 : tie.Need-sub-t28 Inv-loop μ-loop
-sub-t28 c = c .before .loop .inv .0 .left-most
+sub-t26 : tie.Need-sub-t26 Inv-loop μ-loop
+sub-t26 c = c .before .loop .inv .0 .left-most
 
-returns-5 : tie.Need-returns-5 Inv-loop μ-loop
-returns-5 c = let a = c .before .before .before .before .before .args in let l = c .before .loop in judged-all Method.Wheel (a .codes .now) (a .accounts .now) (a .shorts .now) (c .before .before .before .before .before .pre .0) (l .before) (l .left) (l .i) (l .inv .0) (c .loop-test .left)
+returns-4 : tie.Need-returns-4 Inv-loop μ-loop
+returns-4 c = let a = c .before .before .before .before .before .args in let l = c .before .loop in judged-all Method.Wheel (a .codes .now) (a .accounts .now) (a .shorts .now) (c .before .before .before .before .before .pre .0) (l .before) (l .left) (l .i) (l .inv .0) (c .loop-test .left)
 
 pub judge-chained-spec : {M : Type 1} → statement M
 judge-chained-spec =
@@ -92,19 +83,16 @@ judge-chained-spec =
     shared-slice-read-code
     mul-count
     shared-slice-read-count
+    is-account-refused-requires
     returns
-    mul-if2
-    shared-slice-read-if2
     returns-2
-    stands-earlier-requires
-    returns-3
     is-refused-requires
     refuse-shorts-requires
-    returns-4
+    returns-3
     link-requires
     sub-left
     add-i
     loop-less
     loop-again
-    sub-t28
-    returns-5)
+    sub-t26
+    returns-4)
