@@ -1,5 +1,5 @@
 #!/bin/sh
-# Assigns the series in the file $1, and prints its list only where that is whole and can be booked. The exit status is 0 then, and 1 otherwise.
+# Assigns the series in the file $1, and prints the amounts only where the whole list is there and can be booked. Under R that has the ranges too, which are not printed. The exit status is 0 then, and 1 otherwise.
 # ASSIGN: the program (target/bin/assign of the repository).
 set -eu
 assign=${ASSIGN:-$(dirname "$0")/../target/bin/assign}
@@ -10,13 +10,20 @@ if ! "$assign" <"$1" >"$work/list" 2>"$work/errors" || [ -s "$work/errors" ]; th
     cat "$work/list" "$work/errors" >&2
     exit 1
 fi
-positions=$(($(wc -l <"$1") - 3))
+method=$(sed -n 2p "$1" | cut -d, -f1)
 exercised=$(sed -n 2p "$1" | cut -d, -f2)
-assigned=$(awk -F, 'NR > 1 { sum += $2 } END { print sum + 0 }' "$work/list")
-if [ "$(sed -n 1p "$work/list")" != account,assigned ] ||
-    [ "$(wc -l <"$work/list")" -ne $((positions + 1)) ] ||
-    ! [ "$assigned" -eq "$exercised" ]; then
+# A table is a names line and a line for each position; R has two.
+table=$(($(wc -l <"$1") - 2))
+lines=$table
+[ "$method" != R ] || lines=$((2 * table))
+if [ "$(wc -l <"$work/list")" -ne "$lines" ] ||
+    ! awk -F, -v table="$table" -v lines="$lines" -v exercised="$exercised" '
+        NR == 1 { wrong += $0 != "account,assigned"; next }
+        NR <= table { account[NR] = $1; assigned += $2; next }
+        NR == table + 1 { wrong += $0 != "account,first,last,first2,last2"; next }
+        { wrong += NF != 5 || $1 != account[NR - table]; last = $3; last2 = $5 }
+        END { exit wrong || NR != lines || assigned != exercised || last2 != 2 * last }' "$work/list"; then
     echo "the list of $1 is not whole" >&2
     exit 1
 fi
-cat "$work/list"
+head -n "$table" "$work/list"

@@ -8,7 +8,7 @@
  *    2  there are more than 4,096 positions
  *    3  there are no positions
  *    4  an output is too short
- *    5  a code (W) or account (P,L) is 0 or does not rise
+ *    5  a code (W) or account (P,L,R) is 0 or not rising
  *    6  a position has no short contracts
  *    7  the positions hold more than 10,000,000 contracts
  *    8  no contract is exercised
@@ -17,7 +17,7 @@
  *   11  the text has, or would have, over 32,768 bytes
  *   12  line 1 or line 3 is missing or not exact
  *   13  bad line 2 or position line (number: 1-10 digits)
- *   14  the method is not W, P or L
+ *   14  the method is not W, P, L or R
  *   15  there are more than 1,024 positions in a text
  *   16  a count of the day is above 10,000,000
  *   17  closing purchases exceed short plus opening sales
@@ -42,28 +42,31 @@
 extern "C" {
 #endif
 
-/* Raised where a signature or a constant changes or a call is new; 1 was the first
-   delivery's. */
-#define DILBRETH_VERSION 4
+/* Raised where a signature, a constant or a length that is always enough changes, or a
+   call or a constant is new; 1 was the first delivery's. */
+#define DILBRETH_VERSION 5
 
 /* The methods. */
 #define DILBRETH_WHEEL ((uint8_t)'W')
 #define DILBRETH_PRO_RATA ((uint8_t)'P')
 #define DILBRETH_LOTTERY ((uint8_t)'L')
+#define DILBRETH_REMAINDER_DRAW ((uint8_t)'R')
 
 /*
  * Assigns the exercised contracts of one series to its short positions.
- * Refuses 14 first, for a method that is none of the three, then 1 to 4, then, for
- * each position in turn, 5, 19 (under W only), 6 and 7, then 8 to 10.
+ * Refuses 14 first, for a method that is none of the four, then 1 to 4, then, for
+ * each position in turn, 5, 19 (under W only), 6 and 7, then 8, 9 and, under W and L
+ * only, 10.
  *
- * method        'W' the wheel, 'P' pro rata, 'L' the starting number
+ * method        'W' the wheel, 'P' pro rata, 'L' the starting number, 'R' the
+ *               remainder draw
  * codes         the identification code of each position. Under W the list stands in
- *               the order of its codes, 1 or more, rising. Under P and L no code is
+ *               the order of its codes, 1 or more, rising. Under P, L and R no code is
  *               looked at
  * codes_len     the length of codes; under W equal to accounts_len, else any (0 too)
- * accounts      the account of each position, 1 or more: under P and L rising, under W
- *               each other than all earlier ones. A caller without codes hands the
- *               accounts as codes too
+ * accounts      the account of each position, 1 or more: under P, L and R rising,
+ *               under W each other than all earlier ones. A caller without codes hands
+ *               the accounts as codes too
  * accounts_len  the length of accounts, 1 to 4,096
  * shorts        the short contracts of each position, 1 or more; their sum is T,
  *               at most 10,000,000
@@ -71,14 +74,15 @@ extern "C" {
  * exercised     S, the contracts exercised, 1 to T
  * draw          W: the starting place, 1 to T. L: 1 to 10,000 ten-thousandths.
  *               P: any number; it decides who is served among equal decimal parts.
- *               Not looked at, so 0 will do, where S equals T under W or L, and
- *               where the list has one position under L
+ *               R: any number; the starting place is (draw modulo T) + 1.
+ *               Not looked at, so 0 will do, where S equals T, and where the list has
+ *               one position under L or R
  * amounts       receives the contracts assigned to each position, in list order;
  *               elements past the list are kept
  * amounts_len   the length of amounts, at least accounts_len
  * total         receives T
  * further       receives, for W, the number of blocks (0 where S equals T);
- *               for P, the contracts of round two; for L, the starting place
+ *               for P, the contracts of round two; for L and R, the starting place
  *               (0 where S equals T or the list has one position)
  */
 uint32_t dilbreth_allocate(uint8_t method,
@@ -104,7 +108,7 @@ uint32_t dilbreth_allocate(uint8_t method,
  * accounts_len  the length of accounts (1,024 is always enough)
  * shorts        receives the shorts of each position; elements past them are kept
  * shorts_len    the length of shorts (1,024 is always enough)
- * method        receives 'W', 'P' or 'L'
+ * method        receives 'W', 'P', 'L' or 'R'
  * exercised     receives S
  * draw          receives the draw
  * positions     receives the number of positions, 0 for a text without any
@@ -118,12 +122,12 @@ uint32_t dilbreth_read(const uint8_t *text, size_t text_len,
 
 /*
  * Writes the text of a series. Refuses 14 first, for a method that is none of
- * the three, then 1, then 15 for more than 1,024 positions, then 11 for a text of more
+ * the four, then 1, then 15 for more than 1,024 positions, then 11 for a text of more
  * than 32,768 bytes, then 4 where text is shorter than what there is to write. Codes,
  * accounts, shorts, S and draw are not judged. Codes are written where some code is not
  * its account, else line 3 has no code. No number is written with leading zeros.
  *
- * method        'W', 'P' or 'L'
+ * method        'W', 'P', 'L' or 'R'
  * exercised     S
  * draw          the draw
  * codes         the code of each position
@@ -146,13 +150,15 @@ uint32_t dilbreth_write(uint8_t method, uint32_t exercised, uint32_t draw,
 /*
  * Writes what the program `assign` prints for a text: the line `account,assigned`
  * and a line for each position, or, for a text or series that is refused, the line
- * `refused` and a line with the number. The only refusal of this call is 4, where
- * output is shorter than those bytes.
+ * `refused` and a line with the number. Under R the amounts are followed by the line
+ * `account,first,last,first2,last2` and a line for each position with its two ranges:
+ * the first and the last place of its contracts, then both plus T. The only refusal of
+ * this call is 4, where output is shorter than all those bytes.
  *
  * text          the bytes of the text
  * text_len      its length; more than 32,768 is answered in output by 11
  * output        receives the bytes; bytes past them are kept
- * output_len    the length of output (32,768 is always enough)
+ * output_len    the length of output (70,705 is always enough)
  * written       receives the number of bytes written
  */
 uint32_t dilbreth_respond(const uint8_t *text, size_t text_len,

@@ -1,5 +1,5 @@
 /* The archive and its header, from C: case M, starred series, series that need no draw, leading zeros, codes, the
-   circular's days, a refusal of each call, the words for a refusal. */
+   exhibit of the remainder draw, the circular's days, a refusal of each call, the words for a refusal. */
 #include <inttypes.h>
 #include <stdio.h>
 #include <string.h>
@@ -40,6 +40,11 @@ static const struct series KNOWN[] = {
     {"W, whole, no draw", DILBRETH_WHEEL, 5, {5, 8, 2, 10, 11}, 36, 0, {5, 8, 2, 10, 11}, 36, 0},
     {"L, whole, no draw", DILBRETH_LOTTERY, 5, {5, 8, 2, 10, 11}, 36, 0, {5, 8, 2, 10, 11}, 36, 0},
     {"L, one, no draw", DILBRETH_LOTTERY, 1, {36}, 13, 0, {13}, 36, 0},
+    {"R", DILBRETH_REMAINDER_DRAW, 5, {5, 8, 2, 10, 11}, 13, 17, {0, 0, 0, 8, 5}, 36, 18},
+    {"R, draw 0", DILBRETH_REMAINDER_DRAW, 5, {5, 8, 2, 10, 11}, 13, 0, {5, 8, 0, 0, 0}, 36, 1},
+    {"R, the largest draw", DILBRETH_REMAINDER_DRAW, 5, {5, 8, 2, 10, 11}, 3, UINT32_MAX, {2, 1, 0, 0, 0}, 36, 4},
+    {"R, whole", DILBRETH_REMAINDER_DRAW, 5, {5, 8, 2, 10, 11}, 36, 17, {5, 8, 2, 10, 11}, 36, 0},
+    {"R, one", DILBRETH_REMAINDER_DRAW, 1, {36}, 13, 17, {13}, 36, 0},
 };
 
 static void known(const struct series *s)
@@ -148,6 +153,37 @@ static void by_codes(void)
         dilbreth_write('L', 1, 1, codes, 2, accounts, 3, shorts, 3, text, sizeof text, &written) == 1);
 }
 
+static void exhibit(void)
+{
+    static const char TEXT[] = "method,exercised,draw\nR,50,395\naccount,short\n1,1\n2,50\n3,100\n4,2\n5,1\n6,1\n"
+                               "7,1000\n8,1\n9,10\n10,20\n";
+    static const char PRINTED[] = "account,assigned\n1,0\n2,0\n3,0\n4,0\n5,0\n6,0\n7,50\n8,0\n9,0\n10,0\n"
+                                  "account,first,last,first2,last2\n1,1,1,1187,1187\n2,2,51,1188,1237\n"
+                                  "3,52,151,1238,1337\n4,152,153,1338,1339\n5,154,154,1340,1340\n"
+                                  "6,155,155,1341,1341\n7,156,1155,1342,2341\n8,1156,1156,2342,2342\n"
+                                  "9,1157,1166,2343,2352\n10,1167,1186,2353,2372\n";
+    const size_t printed = sizeof PRINTED - 1;
+    uint32_t codes[10], accounts[10], shorts[10], amounts[10], exercised = 0, draw = 0, total = 0, further = 0;
+    uint8_t method = 0, output[400], before[400];
+    size_t positions = 0, written = 9;
+
+    memset(output, 0xEE, sizeof output);
+    memset(before, 0xEE, sizeof before);
+    see("exhibit read", dilbreth_read((const uint8_t *)TEXT, sizeof TEXT - 1, codes, 10, accounts, 10, shorts, 10,
+                                      &method, &exercised, &draw, &positions) == 0 &&
+                            method == DILBRETH_REMAINDER_DRAW && exercised == 50 && draw == 395 && positions == 10);
+    see("exhibit allocated without a code",
+        dilbreth_allocate(method, codes, 0, accounts, 10, shorts, 10, exercised, draw, amounts, 10, &total,
+                          &further) == 0 &&
+            total == 1186 && further == 396 && amounts[0] == 0 && amounts[6] == 50 && amounts[9] == 0);
+    see("exhibit responded to by 4 where the output is a byte too short",
+        dilbreth_respond((const uint8_t *)TEXT, sizeof TEXT - 1, output, printed - 1, &written) == 4 && written == 9 &&
+            memcmp(output, before, sizeof output) == 0);
+    see("exhibit responded to with its ranges",
+        dilbreth_respond((const uint8_t *)TEXT, sizeof TEXT - 1, output, sizeof output, &written) == 0 &&
+            written == printed && memcmp(output, PRINTED, printed) == 0 && output[printed] == 0xEE);
+}
+
 static void refusals(void)
 {
     static const uint32_t shorts[5] = {5, 8, 2, 10, 11};
@@ -248,6 +284,7 @@ static void market_makers(void)
 static void words(void)
 {
     static const char NINE[] = "more is exercised than the positions hold\n", NONE[] = "no refusal has this number\n";
+    static const char FOURTEEN[] = "the method is not W, P, L or R\n";
     const size_t length = sizeof NINE - 1;
     uint8_t line[DILBRETH_LONGEST_EXPLANATION + 1], before[sizeof line];
 
@@ -259,6 +296,8 @@ static void words(void)
     see("explain a number of no refusal",
         dilbreth_explain(0, line, sizeof line) == sizeof NONE - 1 && memcmp(line, NONE, sizeof NONE - 1) == 0 &&
             line[sizeof NONE - 1] == (uint8_t)NINE[sizeof NONE - 1]);
+    see("the words for 14", dilbreth_explain(14, line, sizeof line) == sizeof FOURTEEN - 1 &&
+                                memcmp(line, FOURTEEN, sizeof FOURTEEN - 1) == 0);
     see("the longest line", dilbreth_explain(10, line, sizeof line) == DILBRETH_LONGEST_EXPLANATION);
 }
 
@@ -266,11 +305,13 @@ int main(void)
 {
     size_t i;
 
+    see("the version", DILBRETH_VERSION == 5);
     for (i = 0; i < sizeof KNOWN / sizeof KNOWN[0]; i++)
         known(&KNOWN[i]);
     case_m();
     leading_zeros();
     by_codes();
+    exhibit();
     refusals();
     for (i = 0; i < sizeof INVESTORS / sizeof INVESTORS[0]; i++)
         investor(&INVESTORS[i]);

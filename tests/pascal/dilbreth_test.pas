@@ -1,5 +1,5 @@
 { The unit and the archive, from Pascal: case M through each call, series that need no draw, leading zeros, codes, the
-  circular's days, refusals. }
+  remainder draw, the circular's days, refusals. }
 program dilbreth_test;
 
 {$mode objfpc}
@@ -16,6 +16,9 @@ const
   ELEVEN = 'method,exercised,draw'#10'L,13,4855'#10'account,short'#10'00000000001,5'#10;
   A_CODED = 'method,exercised,draw'#10'W,175,1'#10'code,account,short'#10'10,500,60'#10'20,700,200'#10'30,100,95'#10;
   A_ASSIGNED = 'account,assigned'#10'500,35'#10'700,97'#10'100,43'#10;
+  M_DRAWN = 'method,exercised,draw'#10'R,13,53'#10'account,short'#10'1,5'#10'2,8'#10'3,2'#10'4,10'#10'5,11'#10;
+  M_RANGES = 'account,first,last,first2,last2'#10'1,1,5,37,41'#10'2,6,13,42,49'#10'3,14,15,50,51'#10
+    + '4,16,25,52,61'#10'5,26,36,62,72'#10;
   AMOUNTS_OF_A: array[0..5] of LongWord = (35, 97, 43, 999, 999, 999);
   AMOUNTS_OF_M: array[0..5] of LongWord = (0, 0, 0, 8, 5, 999);
 
@@ -93,6 +96,7 @@ begin
   series := M;
   bytes := StringOfChar('x', 100);
   FillDWord(amounts, 6, 999);
+  See('the version', DILBRETH_VERSION = 5);
   See('read', (ReadText(series) = 0)
     and (method = DILBRETH_LOTTERY) and (exercised = 13) and (draw = 4855) and (positions = 5)
     and (codes[4] = 5) and (accounts[4] = 5) and (shorts[4] = 11)
@@ -138,6 +142,20 @@ begin
   series := A_CODED;
   See('respond in code order', (dilbreth_respond(PByte(series), Length(series), PByte(bytes), Length(bytes),
     @written) = 0) and (First(written) = A_ASSIGNED));
+  See('read R', (ReadText(M_DRAWN) = 0) and (method = DILBRETH_REMAINDER_DRAW) and (draw = 53) and (positions = 5));
+  FillDWord(amounts, 6, 999);
+  See('allocate under R without a code', (dilbreth_allocate(DILBRETH_REMAINDER_DRAW, @codes[0], 0, @accounts[0], 5,
+    @shorts[0], 5, exercised, draw, @amounts[0], 6, @total, @further) = 0)
+    and (total = 36) and (further = 18) and (CompareDWord(amounts, AMOUNTS_OF_M, 6) = 0));
+  See('allocate a whole series of R', (Undrawn(DILBRETH_REMAINDER_DRAW, 5, 36) = 0)
+    and (total = 36) and (further = 0) and (CompareDWord(amounts, shorts, 6) = 0));
+  See('allocate one position of R', (Undrawn(DILBRETH_REMAINDER_DRAW, 1, 4) = 0)
+    and (total = 5) and (further = 0) and (amounts[0] = 4) and (amounts[1] = 999));
+  series := M_DRAWN;
+  bytes := StringOfChar('x', 200);
+  See('respond with the ranges', (dilbreth_respond(PByte(series), Length(series), PByte(bytes), Length(bytes),
+    @written) = 0) and (First(written) = M_ASSIGNED + M_RANGES) and (bytes[written + 1] = 'x'));
+  See('read codes again', ReadText(A_CODED) = 0);
   accounts[2] := 500;
   See('allocate refuses 19', dilbreth_allocate(method, @codes[0], 3, @accounts[0], 3, @shorts[0], 3, exercised, draw,
     @amounts[0], 6, @total, @further) = 19);

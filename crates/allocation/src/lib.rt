@@ -1,4 +1,4 @@
-// The allocating call: the wheel and the starting number in private modules, pro rata in a crate of its own.
+// The allocating call: the wheel, the starting number and the remainder draw in private modules, pro rata in a crate of its own.
 mod lists;
 mod lottery;
 mod millionths;
@@ -6,17 +6,21 @@ mod places;
 mod wheel;
 
 use crate::lottery::Start;
+use crate::lottery::StartBy;
 use judging::Judged;
 use series::Answer;
 use series::Contracts;
 use series::Method;
 use series::Terms;
 ghost use Prim.Native.Nat.{ℕ};
+ghost use mathlib.Core.Path.{_≡_};
 ghost use mathlib.Core.List.{List};
 ghost use lib.ListN.{length};
 ghost use Rattle.series.specs.Answers.{answerOf};
+ghost use Rattle.series.specs.Results.{value};
 ghost use Rattle.series.specs.Fair.{AllocatingCall};
 ghost use Rattle.series.specs.declared.Method.{Method as Method·};
+ghost use Rattle.allocation.specs.Lottery.{methodFor, startOf};
 
 // The assignment increment.
 const INCREMENT: u32 = 25;
@@ -54,18 +58,45 @@ fn allocate_wheel(
     }
 }
 
-// The call by the starting number, whatever the codes.
-fn allocate_lottery(
+// The method that goes by such a start.
+fn method_for(by: StartBy) -> Method
+    ensures { λ r. ⌜ r ≡ methodFor by ⌝ }
+{
+    match by {
+        StartBy::TenThousandths => Method::Lottery,
+        StartBy::Remainder => Method::RemainderDraw,
+    }
+}
+
+// What such a call answers.
+fn answer_for(by: StartBy, total: Contracts, start: Start) -> Answer
+    ensures { λ r. ⌜ answerOf r ≡ value (record { method = methodFor by; total = total .0; further = startOf start }) ⌝ }
+{
+    match start {
+        Start::At(start) => match by {
+            StartBy::TenThousandths => Answer::Lottery { total, start },
+            StartBy::Remainder => Answer::RemainderDraw { total, start },
+        },
+        Start::Undrawn => match by {
+            StartBy::TenThousandths => Answer::LotteryUndrawn { total },
+            StartBy::Remainder => Answer::RemainderUndrawn { total },
+        },
+    }
+}
+
+// The call by L or R, whatever the codes.
+fn allocate_started(
+    by: StartBy,
     exercised: Contracts,
     draw: u32,
     accounts: &[u32],
     shorts: &[u32],
     amounts: &mut [u32],
 ) -> Answer
-    ensures { λ r. ⌜ ((codes : List ℕ) → AllocatingCall (record { terms = record { method = Method·.Lottery; exercised = exercised; draw = draw }; codes = codes; accounts = now (accounts .entry); shorts = now (shorts .entry) }) (answerOf r) (now (amounts .entry)) (now (amounts .exit))) ⌝ }
+    ensures { λ r. ⌜ ((codes : List ℕ) → AllocatingCall (record { terms = record { method = methodFor by; exercised = exercised; draw = draw }; codes = codes; accounts = now (accounts .entry); shorts = now (shorts .entry) }) (answerOf r) (now (amounts .entry)) (now (amounts .exit))) ⌝ }
 {
     let terms = Terms {
-        method: Method::Lottery,
+        method: method_for(by),
         exercised,
         draw,
     };
@@ -73,10 +104,15 @@ fn allocate_lottery(
         Judged::Refused(refusal) => Answer::Refused(refusal),
         Judged::Accepted(total) => {
             let n = shorts.len();
-            match lottery::assign_by_draw(shorts, total, exercised, draw, &mut amounts[..n]) {
-                Start::At(start) => Answer::Lottery { total, start },
-                Start::Undrawn => Answer::LotteryUndrawn { total },
-            }
+            let start = lottery::assign_by_draw(
+                by,
+                shorts,
+                total,
+                exercised,
+                draw,
+                &mut amounts[..n],
+            );
+            answer_for(by, total, start)
         }
     }
 }
@@ -97,6 +133,25 @@ pub fn allocate(
     match method {
         Method::Wheel => allocate_wheel(exercised, draw, codes, accounts, shorts, amounts),
         Method::ProRata => pro_rata::allocate(exercised, draw, accounts, shorts, amounts),
-        Method::Lottery => allocate_lottery(exercised, draw, accounts, shorts, amounts),
+        Method::Lottery => {
+            allocate_started(
+                StartBy::TenThousandths,
+                exercised,
+                draw,
+                accounts,
+                shorts,
+                amounts,
+            )
+        }
+        Method::RemainderDraw => {
+            allocate_started(
+                StartBy::Remainder,
+                exercised,
+                draw,
+                accounts,
+                shorts,
+                amounts,
+            )
+        }
     }
 }

@@ -1,4 +1,4 @@
-// The starting number (L).
+// The starting number (L) and the remainder draw (R): one run from a starting place.
 use crate::lists::clear;
 use crate::lists::copy;
 use crate::places::assign_run;
@@ -6,10 +6,10 @@ use crate::places::seek;
 use series::Contracts;
 use series::Place;
 ghost use mathlib.Core.Path.{_≡_};
-ghost use Prim.Native.Nat.{_≤_};
+ghost use Prim.Native.Nat.{_≤_, _<_};
 ghost use Rattle.series.specs.Series.{MOST_CONTRACTS};
-ghost use Rattle.series.specs.Lottery.{lottery, startingPlace, lotteryAmounts, startUsed};
-ghost use Rattle.allocation.specs.Lottery.{LotteryCall, DrawCall, startOf};
+ghost use Rattle.series.specs.Lottery.{lottery, lotteryAmounts, startUsed};
+ghost use Rattle.allocation.specs.Lottery.{LotteryCall, placeBy, Leads, DrawCall, startOf};
 
 // Where the work starts: at the starting place, or at none where none is needed.
 pub enum Start {
@@ -17,12 +17,25 @@ pub enum Start {
     Undrawn,
 }
 
-// The starting place: the draw in ten-thousandths of T, rounded up.
-fn starting_place(total: Contracts, draw: u32) -> Place
-    requires { ⌜ (total .0 ≤ MOST_CONTRACTS) × (draw ≤ 10000) ⌝ }
-    ensures { λ r. ⌜ r .0 ≡ startingPlace (total .0) draw ⌝ }
+// How a draw leads to a starting place.
+pub enum StartBy {
+    // L: the draw in ten-thousandths of T, rounded up.
+    TenThousandths,
+    // R: the draw modulo T, plus 1.
+    Remainder,
+}
+
+// The starting place that a draw leads to.
+fn starting_place(by: StartBy, total: Contracts, draw: u32) -> Place
+    requires { ⌜ (0 < total .0) × (total .0 ≤ MOST_CONTRACTS) × Leads by draw ⌝ }
+    ensures { λ r. ⌜ r .0 ≡ placeBy by (total .0) draw ⌝ }
 {
-    Place((((draw as u64) * (total.0 as u64) + 9999) / 10000) as u32)
+    match by {
+        StartBy::TenThousandths => {
+            Place((((draw as u64) * (total.0 as u64) + 9999) / 10000) as u32)
+        }
+        StartBy::Remainder => Place(draw % total.0 + 1),
+    }
 }
 
 // Assigns S contracts from the starting place on.
@@ -37,22 +50,23 @@ fn assign(shorts: &[u32], exercised: Contracts, start: Place, amounts: &mut [u32
 
 // Assigns S contracts: each position whole where S equals T; then S to a list of one position; else from the place that the draw leads to.
 pub fn assign_by_draw(
+    by: StartBy,
     shorts: &[u32],
     total: Contracts,
     exercised: Contracts,
     draw: u32,
     amounts: &mut [u32],
 ) -> Start
-    requires { ⌜ DrawCall (now shorts) (now amounts) (total .0) (exercised .0) draw ⌝ }
-    ensures { λ r. ⌜ startOf r ≡ startUsed (now (shorts .entry)) (exercised .0) (startingPlace (total .0) draw) ⌝ }
-    ensures { λ _. ⌜ now (amounts .exit) ≡ lotteryAmounts (now (shorts .entry)) (exercised .0) (startingPlace (total .0) draw) ⌝ }
+    requires { ⌜ DrawCall by (now shorts) (now amounts) (total .0) (exercised .0) draw ⌝ }
+    ensures { λ r. ⌜ startOf r ≡ startUsed (now (shorts .entry)) (exercised .0) (placeBy by (total .0) draw) ⌝ }
+    ensures { λ _. ⌜ now (amounts .exit) ≡ lotteryAmounts (now (shorts .entry)) (exercised .0) (placeBy by (total .0) draw) ⌝ }
 {
     if exercised.0 == total.0 {
         copy(shorts, amounts);
     } else if shorts.len() == 1 {
         amounts[0] = exercised.0;
     } else {
-        let start = starting_place(total, draw);
+        let start = starting_place(by, total, draw);
         assign(shorts, exercised, start, amounts);
         return Start::At(start);
     }

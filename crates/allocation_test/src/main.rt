@@ -37,6 +37,8 @@ fn print_answer(answer: Answer) {
         Answer::ProRata { total, remainder } => print_allocation(b" P", total, remainder.0),
         Answer::Lottery { total, start } => print_allocation(b" L", total, start.0),
         Answer::LotteryUndrawn { total } => print_allocation(b" L", total, 0),
+        Answer::RemainderDraw { total, start } => print_allocation(b" R", total, start.0),
+        Answer::RemainderUndrawn { total } => print_allocation(b" R", total, 0),
         Answer::Refused(refusal) => print_refusal(refusal),
     }
 }
@@ -109,6 +111,16 @@ fn lottery(label: &[u8], accounts: &[u32], shorts: &[u32], exercised: u32, draw:
     show(
         label,
         terms(Method::Lottery, exercised, draw),
+        accounts,
+        shorts,
+        8,
+    );
+}
+
+fn remainder_draw(label: &[u8], accounts: &[u32], shorts: &[u32], exercised: u32, draw: u32) {
+    show(
+        label,
+        terms(Method::RemainderDraw, exercised, draw),
         accounts,
         shorts,
         8,
@@ -345,7 +357,23 @@ fn codes() {
     coded(b"1, more codes", &[1, 2, 3], &[1, 2], &[1, 1]);
 }
 
-// Codes that P and L do not look at.
+// M and N by R from the places that L starts at; draws at the ends; what needs no draw; what is refused.
+fn remainder_series() {
+    let accounts = [1, 2, 3, 4, 5];
+    let shorts = [5, 8, 2, 10, 11];
+    remainder_draw(b"M by R", &accounts, &shorts, 13, 17);
+    remainder_draw(b"N by R", &accounts, &shorts, 2, 35);
+    remainder_draw(b"R, draw 0", &accounts, &shorts, 13, 0);
+    remainder_draw(b"R, draw T", &accounts, &shorts, 13, 36);
+    remainder_draw(b"R, largest draw", &accounts, &shorts, 2, 4_294_967_295);
+    remainder_draw(b"R, S is T", &accounts, &shorts, 36, 17);
+    remainder_draw(b"R, one position", &[1], &[3], 2, 9);
+    remainder_draw(b"R, 8", &accounts, &shorts, 0, 17);
+    remainder_draw(b"R, 9", &accounts, &shorts, 37, 17);
+    remainder_draw(b"R, 5", &[1, 1], &[1, 1], 1, 0);
+}
+
+// Codes that P, L and R do not look at.
 fn unseen_codes() {
     show_coded(
         b"F, codes 0",
@@ -367,6 +395,14 @@ fn unseen_codes() {
         b"M, one code",
         terms(Method::Lottery, 13, 4855),
         &[9],
+        &[1, 2, 3, 4, 5],
+        &[5, 8, 2, 10, 11],
+        8,
+    );
+    show_coded(
+        b"M by R, no codes",
+        terms(Method::RemainderDraw, 13, 17),
+        &[],
         &[1, 2, 3, 4, 5],
         &[5, 8, 2, 10, 11],
         8,
@@ -487,6 +523,7 @@ fn main() {
     wheel_series();
     pro_rata_series();
     lottery_series();
+    remainder_series();
     whole();
     one_position();
     largest();

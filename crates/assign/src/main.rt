@@ -19,11 +19,11 @@ fn input_buffer() -> [u8; 32769]
     [0; 32769]
 }
 
-// Room for all that can be printed: the names line and 1,024 lines of at most 22 bytes.
-fn output_buffer() -> [u8; 22545]
+// Room for all that can be printed: two names lines, 1,024 lines of at most 22 bytes and as many of at most 47.
+fn output_buffer() -> [u8; 70705]
     ensures { λ r. ⌜ MOST_PRINTED ≤ length r ⌝ }
 {
-    [0; 22545]
+    [0; 70705]
 }
 
 // Bytes for a person.

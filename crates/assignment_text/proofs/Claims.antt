@@ -7,15 +7,16 @@ use Rattle.series.specs.Sums.{bit, listed}
 use Rattle.series.specs.Places.{total, next, run, within, marked, before, last, amounts}
 use Rattle.series.specs.Wheel.{wheel}
 use Rattle.series.specs.Lottery.{startingPlace, lottery, unstarted, lotteryAmounts}
+use Rattle.series.specs.RemainderDraw.{remainderPlace, firstRange, secondRange}
 use Rattle.series.specs.Refusals.{first, lengthRows, roomRows, standsIn, accountRefused, positionRows, exercisedRows, outside, undrawn, drawRows, thenDrawRows, listRows, rows, verdict}
 use Rattle.series.specs.Call.{assigned}
 use Rattle.series_text.specs.Numbers.{digit, digits, spelled, amountFrom, amount, numeral, number, decimalIn, decimal}
 use Rattle.series_text.specs.Fields.{Text, ends, field, past, fieldBy, endBefore, readFields, writeNumber}
 use Rattle.series_text.specs.Rows.{numbers, readRow, readRows, writeRow, writeRows, rowsOf, column}
 use Rattle.series_text.specs.Names.{namesLine, afterLine, headingOr, readNames}
-use Rattle.series_text.specs.Letters.{letter, methodBy, methodOf}
+use Rattle.series_text.specs.Letters.{letter, methodAmong, methodBy, methodOf}
 use Rattle.series_text.specs.Text.{readTerms, readHead, readPositions, readText}
-use Rattle.assignment_text.specs.Printed.{refusedLines, assignedLines, seriesOrRefusal, textOrRefusal, linesFor, printed}
+use Rattle.assignment_text.specs.Printed.{refusedLines, assignedLines, rangeColumns, rangeLines, rangesBy, seriesOrRefusal, textOrRefusal, linesFor, printed}
 
 -- a text, and what is printed for it
 pub record Case : Type 0 where
@@ -61,11 +62,21 @@ cases =
     prints "method,exercised,draw\nW,13,0\ncode,account,short\n1,700,5\n3,700,8\n" "refused\n19\n" ∷
     prints "method,exercised,draw\nW,13,0\ncode,account,short\n1,700,5\n700,8\n" "refused\n13\n" ∷
     prints "method,exercised,draw\nL,13,0\ncode,account,short\n3,500,5\n0,700,8\n" "account,assigned\n500,5\n700,8\n" ∷
+    -- the exhibit of source document 004, customers A to J as accounts 1 to 10
+    prints "method,exercised,draw\nR,50,395\naccount,short\n1,1\n2,50\n3,100\n4,2\n5,1\n6,1\n7,1000\n8,1\n9,10\n10,20\n"
+    "account,assigned\n1,0\n2,0\n3,0\n4,0\n5,0\n6,0\n7,50\n8,0\n9,0\n10,0\naccount,first,last,first2,last2\n1,1,1,1187,1187\n2,2,51,1188,1237\n3,52,151,1238,1337\n4,152,153,1338,1339\n5,154,154,1340,1340\n6,155,155,1341,1341\n7,156,1155,1342,2341\n8,1156,1156,2342,2342\n9,1157,1166,2343,2352\n10,1167,1186,2353,2372\n" ∷
+    -- R where no draw is needed, S equal to T and one position, has its ranges too; a refusal under R has none
+    prints "method,exercised,draw\nR,13,0\naccount,short\n1,5\n2,8\n" "account,assigned\n1,5\n2,8\naccount,first,last,first2,last2\n1,1,5,14,18\n2,6,13,19,26\n" ∷
+    prints "method,exercised,draw\nR,4,4294967295\naccount,short\n7,5\n" "account,assigned\n7,4\naccount,first,last,first2,last2\n7,1,5,6,10\n" ∷
+    prints "method,exercised,draw\nR,14,0\naccount,short\n1,5\n2,8\n" "refused\n9\n" ∷
+    prints "method,exercised,draw\nR,0,0\naccount,short\n1,5\n" "refused\n8\n" ∷
+    -- case M from the same starting place by R
+    prints "method,exercised,draw\nR,13,17\naccount,short\n1,5\n2,8\n3,2\n4,10\n5,11\n" "account,assigned\n1,0\n2,0\n3,0\n4,8\n5,5\naccount,first,last,first2,last2\n1,1,5,37,41\n2,6,13,42,49\n3,14,15,50,51\n4,16,25,52,61\n5,26,36,62,72\n" ∷
     []
 
 -- the line `unfolding` names every definition that printing computes with
 printing : Text → Text
-unfolding bit listed total next run within marked before last amounts wheel startingPlace lottery unstarted lotteryAmounts first lengthRows roomRows standsIn accountRefused positionRows exercisedRows outside undrawn drawRows thenDrawRows listRows rows verdict assigned digit digits spelled amountFrom amount numeral number decimalIn decimal ends field past fieldBy endBefore readFields writeNumber numbers readRow readRows writeRow writeRows rowsOf column namesLine afterLine headingOr readNames letter methodBy methodOf readTerms readHead readPositions readText refusedLines assignedLines seriesOrRefusal textOrRefusal linesFor printed ascii
+unfolding bit listed total next run within marked before last amounts wheel startingPlace lottery unstarted lotteryAmounts remainderPlace firstRange secondRange first lengthRows roomRows standsIn accountRefused positionRows exercisedRows outside undrawn drawRows thenDrawRows listRows rows verdict assigned digit digits spelled amountFrom amount numeral number decimalIn decimal ends field past fieldBy endBefore readFields writeNumber numbers readRow readRows writeRow writeRows rowsOf column namesLine afterLine headingOr readNames letter methodAmong methodBy methodOf readTerms readHead readPositions readText refusedLines assignedLines rangeColumns rangeLines rangesBy seriesOrRefusal textOrRefusal linesFor printed ascii
 printing s = printed s
 
 pub known : map (λ c. printed (c .input)) cases ≡ map (λ c. c .output) cases

@@ -3,4 +3,5 @@ pub mod Claims
 pub mod ReadingLaws
 pub mod PrintLaws
 pub mod RoomLaws
+pub mod FillLaws
 pub mod SpellingLaws

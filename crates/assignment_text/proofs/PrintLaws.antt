@@ -2,36 +2,44 @@
 use Prim.Native.Nat.{ℕ, _≤_}
 use mathlib.Core.Path.{_≡_, refl, sym, ap, _∙_}
 use mathlib.Core.Bool.{Bool, true, false, cond}
-use mathlib.Core.List.{List, [], _∷_, append-nil}
+use mathlib.Core.List.{List, [], _∷_, _++_, append-nil}
 use mathlib.Core.Logic.{⊎-elim}
 use native.Mathlib.Omega.{arith}
 use borrow.Author.Tests.{eq-eqb, le-ltb}
 use denote.Enum.Declared.{tagOf}
 use types.Run.{OneOf}
-use lib.Dec.{ltb}
+use lib.Dec.{eqb, ltb}
 use lib.ListN.{length, drop}
 use lib.Seq.{drop-length}
 use Rattle.series.specs.Ascii.{ascii}
 use Rattle.series.specs.Results.{Result, refused, value, _>>=_, refuse, after, status}
 use Rattle.series.specs.Outputs.{onto, ontoRoom}
 use Rattle.series.specs.Sums.{listed}
-use Rattle.series.specs.Series.{Series, method}
+use Rattle.series.specs.Places.{total}
+use Rattle.series.specs.Series.{Series, MOST_CONTRACTS, method, held}
+use Rattle.series.specs.RemainderDraw.{firstRange, secondRange}
 use Rattle.series.specs.Answers.{Allocation, numberOf, answerOf}
 use Rattle.series.specs.Refusals.{verdict}
 use Rattle.series.specs.Call.{assigned, further, answer, output}
 use Rattle.series.specs.declared.Refusal.{Refusal}
 use Rattle.series.specs.declared.Answer.{Answer}
+use Rattle.series.specs.declared.Method.{Method}
 use Rattle.series.proofs.Answer.{the-type}
+use Rattle.series.proofs.Method.{the-type as the-method}
 use Rattle.series.proofs.ResultLaws.{never, value-is}
+use Rattle.series.proofs.SumLaws.{length-listed}
+use Rattle.series.proofs.AcceptedLaws.{accepted-facts, verdict-accepted}
 use Rattle.series.proofs.Demand3.{length-assigned}
 use Rattle.series_text.specs.Fields.{Text}
 use Rattle.series_text.specs.Rows.{writeRows, rowsOf}
 use Rattle.series_text.specs.Text.{MOST_LINES, readText}
 use Rattle.text_writing.specs.Answers.{writingOf}
+use Rattle.text_writing.specs.Tables.{tablesInto}
 use Rattle.series_text.specs.Calls.{lengthOf, evenly, lineCount, headAndLines, linesInto, tableInto, noteInto}
 use Rattle.text_writing.specs.declared.Writing.{Writing}
-use Rattle.assignment_text.specs.Printed.{refusedLines, assignedLines, seriesOrRefusal, textOrRefusal, linesFor, printed}
-use Rattle.assignment_text.specs.Responses.{Printing, responseOf, printInto, Responds}
+use Rattle.assignment_text.specs.Printed.{refusedLines, assignedLines, rangeColumns, rangeLines, rangesBy, seriesOrRefusal, textOrRefusal, linesFor, printed}
+use Rattle.assignment_text.specs.Responses.{Printing, responseOf, writtenHands, printInto, Responds}
+use Rattle.assignment_text.specs.Lists.{Lists}
 use Rattle.assignment_text.specs.declared.Response.{Response}
 
 -- ---- writing a text
@@ -71,6 +79,15 @@ module _ (v : ℕ) (s old new : Text) (w : Writing) (hands : writingOf w ≡ len
   unfolding printInto
   print-all r n e is = record { hands = is ∙ all-is (ltb (length old) (length s)) s n v (ap writingOf (sym e) ∙ hands); output = output-is }
 
+-- an allocation whose text s was written, or did not fit
+pub allocation-printed : (s old new : Text) (w : Result ℕ) (r : Response) → responseOf r ≡ writtenHands w → w ≡ lengthOf (textInto s (length old)) → new ≡ after (textInto s (length old)) (λ t. onto t old) old → Responds r s 0 old new
+unfolding ontoRoom printInto
+allocation-printed s old new w r hands e out = record { hands = hands ∙ by-cases w e; output = out ∙ written-is (ltb (length old) (length s)) s old }
+  where
+    by-cases : (w : Result ℕ) → w ≡ lengthOf (textInto s (length old)) → writtenHands w ≡ cond (ltb (length old) (length s)) (handing 0 4) (handing (length s) 0)
+    by-cases (value n) e = all-is (ltb (length old) (length s)) s n 0 e
+    by-cases (refused n) e = short-is (ltb (length old) (length s)) s n 0 e
+
 pub note-is : (n room : ℕ) → noteInto (ascii "refused\n") n room ≡ textInto (refusedLines n) room
 unfolding noteInto linesInto headAndLines evenly lineCount refusedLines rowsOf listed writeRows
 note-is n room = rw append-nil refl
@@ -79,6 +96,31 @@ pub table-is : (accounts amounts : List ℕ) (room : ℕ) → length accounts �
 unfolding tableInto linesInto headAndLines evenly lineCount assignedLines
 table-is accounts amounts room same few =
     rw (eq-eqb (length accounts) (length accounts) refl, eq-eqb (length amounts) (length accounts) (sym same), le-ltb MOST_LINES (length accounts) few)
+
+-- the amounts and the ranges
+pub tables-are : (accounts shorts amounts : List ℕ) (room : ℕ) → Lists accounts shorts amounts
+    → tablesInto (ascii "account,assigned\n") (accounts ∷ amounts ∷ []) (ascii "account,first,last,first2,last2\n") (rangeColumns accounts shorts) room ≡ textInto (assignedLines accounts amounts ++ rangeLines accounts shorts) room
+unfolding tablesInto headAndLines evenly lineCount assignedLines rangeLines rangeColumns
+tables-are accounts shorts amounts room l =
+    let n : ℕ = length accounts in
+    let even : (f : ℕ → ℕ) → eqb (length (listed f (length shorts))) n ≡ true = λ f. eq-eqb _ n (length-listed f (length shorts) ∙ sym (l .same)) in
+    rw (
+      eq-eqb n n refl,
+      eq-eqb (length amounts) n (l .beside ∙ sym (l .same)),
+      even (λ i. firstRange shorts i .first),
+      even (λ i. firstRange shorts i .last),
+      even (λ i. secondRange shorts i .first),
+      even (λ i. secondRange shorts i .last),
+      le-ltb MOST_LINES n (omega (arith, l .same, l .few)),
+    )
+
+-- no ranges under W, P and L, whose tags are 0 to 2
+pub none-ranged : (m : Method) → OneOf (0 ∷ 1 ∷ 2 ∷ []) (tagOf the-method m) → (accounts shorts : List ℕ) → rangesBy m accounts shorts ≡ []
+unfolding rangesBy
+none-ranged Method.Wheel k accounts shorts = refl
+none-ranged Method.ProRata k accounts shorts = refl
+none-ranged Method.Lottery k accounts shorts = refl
+none-ranged Method.RemainderDraw k accounts shorts = absurd (⊎-elim (λ z. omega arith) (⊎-elim (λ z. omega arith) (λ z. omega arith)) k)
 
 -- ---- the allocating call
 
@@ -100,19 +142,25 @@ module _ (s : Series) where
   is-value (value T) x e = let is : allocation T ≡ x = value-is (sym e) in ap value (ap (λ (y : Allocation). y .total) is)
   is-value (refused k) x e = absurd (never k x (sym e))
 
-  -- an answer that is an allocation, whose tag is 0 to 3
-  allocation-in : (a : Answer) → OneOf (0 ∷ 1 ∷ 2 ∷ 3 ∷ []) (tagOf the-type a) → (x : Allocation) × (answerOf a ≡ value x)
+  -- an answer that is an allocation, whose tag is 0 to 5
+  allocation-in : (a : Answer) → OneOf (0 ∷ 1 ∷ 2 ∷ 3 ∷ 4 ∷ 5 ∷ []) (tagOf the-type a) → (x : Allocation) × (answerOf a ≡ value x)
   allocation-in (Answer.Wheel T b) k = (_, refl)
   allocation-in (Answer.ProRata T l) k = (_, refl)
   allocation-in (Answer.Lottery T p) k = (_, refl)
   allocation-in (Answer.LotteryUndrawn T) k = (_, refl)
-  allocation-in (Answer.Refused q) k = absurd (⊎-elim (λ z. omega arith) (⊎-elim (λ z. omega arith) (⊎-elim (λ z. omega arith) (λ z. omega arith))) k)
+  allocation-in (Answer.RemainderDraw T p) k = (_, refl)
+  allocation-in (Answer.RemainderUndrawn T) k = (_, refl)
+  allocation-in (Answer.Refused q) k = absurd (⊎-elim (λ z. omega arith) (⊎-elim (λ z. omega arith) (⊎-elim (λ z. omega arith) (⊎-elim (λ z. omega arith) (⊎-elim (λ z. omega arith) (λ z. omega arith))))) k)
 
   -- the call answered with an allocation
-  module _ (a : Answer) (k : OneOf (0 ∷ 1 ∷ 2 ∷ 3 ∷ []) (tagOf the-type a)) (e : answerOf a ≡ answer s (length (s .shorts))) where
+  module _ (a : Answer) (k : OneOf (0 ∷ 1 ∷ 2 ∷ 3 ∷ 4 ∷ 5 ∷ []) (tagOf the-type a)) (e : answerOf a ≡ answer s (length (s .shorts))) where
     accepted : verdict s (length (s .shorts)) ≡ value (allocation-in a k .0 .total)
     unfolding answer
     accepted = is-value (verdict s (length (s .shorts))) (allocation-in a k .0) (sym (allocation-in a k .1) ∙ e)
+
+    -- the list was judged
+    pub few-contracts : total (s .shorts) ≤ MOST_CONTRACTS
+    few-contracts = accepted-facts s _ (verdict-accepted s _ _ accepted) .total-most
 
     -- the output holds the amounts alone
     pub amounts-are : (old new : List ℕ) → length old ≡ length (s .shorts) → new ≡ output s old → new ≡ assigned s
@@ -121,7 +169,7 @@ module _ (s : Series) where
         let none : drop (length (assigned s)) old ≡ [] = rw (length-assigned s, ← l) (drop-length old) in
         is ∙ rw (l, accepted, none) (append-nil (assigned s))
 
-    pub assigned-all : (r : Response) (old new : Text) → Responds r (assignedLines (s .accounts) (assigned s)) 0 old new → Responds r (linesFor (seriesOrRefusal s)) (status (seriesOrRefusal s)) old new
+    pub assigned-all : (r : Response) (old new : Text) → Responds r (assignedLines (s .accounts) (assigned s) ++ rangesBy (method s) (s .accounts) (s .shorts)) 0 old new → Responds r (linesFor (seriesOrRefusal s)) (status (seriesOrRefusal s)) old new
     unfolding seriesOrRefusal linesFor
     assigned-all r old new p = rw accepted p
 

@@ -1,25 +1,34 @@
--- What is printed for any text: at least a line, and at most 22,545 bytes.
-use Prim.Native.Nat.{ℕ, _+_, _≤_, _<_}
-use mathlib.Core.Path.{_≡_, refl, ap}
+-- What is printed for any text: at least a line, and at most 70,705 bytes.
+use Prim.Native.Nat.{ℕ, _+_, _^_, _≤_, _<_}
+use mathlib.Core.Path.{_≡_, refl, ap, subst}
 use mathlib.Core.List.{List, [], _∷_, _++_}
 use native.Mathlib.Omega.{arith}
 use borrow.Author.Tests.{le-ltb}
-use lib.ListN.{length, drop, length-append}
+use lib.ListN.{length, getD, drop, length-append}
 use lib.Seq.{take-at}
 use Rattle.series.specs.Ascii.{ascii}
 use Rattle.series.specs.Results.{Result, refused, value, _>>=_}
 use Rattle.series.specs.Outputs.{onto, ontoRoom}
-use Rattle.series.specs.Series.{Series}
+use Rattle.series.specs.Sums.{listed}
+use Rattle.series.specs.Places.{total}
+use Rattle.series.specs.Series.{Series, MOST_CONTRACTS, method}
+use Rattle.series.specs.RemainderDraw.{firstRange, secondRange}
 use Rattle.series.specs.Refusals.{verdict}
 use Rattle.series.specs.Call.{assigned}
+use Rattle.series.specs.declared.Method.{Method}
+use Rattle.series.proofs.AcceptedLaws.{accepted-facts, verdict-accepted}
+use Rattle.series.proofs.RangeLaws.{ranges-within}
+use Rattle.series.proofs.SumLaws.{getD-listed}
 use Rattle.series.proofs.ResultLaws.{stepped, value-is}
 use Rattle.series_text.specs.Fields.{Text}
-use Rattle.series_text.specs.Rows.{writeRow, writeRows, rowsOf}
+use Rattle.series_text.specs.Numbers.{decimal}
+use Rattle.series_text.specs.Rows.{writeRow, writeRows, rowOf, rowsOf}
 use Rattle.series_text.specs.Text.{MOST_LINES, readText}
 use Rattle.series_text.specs.Calls.{lineCount}
+use Rattle.series_text.proofs.DecimalLaws.{digits-few, digits-within}
 use Rattle.series_text.proofs.RowLaws.{row-few}
-use Rattle.series_text.proofs.LengthLaws.{rows-room}
-use Rattle.assignment_text.specs.Printed.{refusedLines, assignedLines, seriesOrRefusal, textOrRefusal, linesFor, printed, MOST_PRINTED}
+use Rattle.series_text.proofs.LengthLaws.{length-row, lines-most, rows-room}
+use Rattle.assignment_text.specs.Printed.{refusedLines, assignedLines, rangeColumns, rangeLines, rangesBy, seriesOrRefusal, textOrRefusal, linesFor, printed, MOST_PRINTED}
 use Rattle.assignment_text.specs.Responses.{Printing, responseOf, printInto, Responds, Whole}
 use Rattle.assignment_text.specs.declared.Response.{Response}
 use Rattle.assignment_text.proofs.ReadingLaws.{few-positions}
@@ -33,29 +42,88 @@ refused-printable : (n : ℕ) → Printable (length (refusedLines n))
 unfolding refusedLines ascii
 refused-printable n = record { some = omega arith; most = omega (arith, length-append (ascii "refused\n") (writeRow (n ∷ [])), row-few (n ∷ [])) }
 
-assigned-printable : (t : Series) → length (t .accounts) ≤ MOST_LINES → Printable (length (assignedLines (t .accounts) (assigned t)))
+assigned-room : (accounts amounts : List ℕ) → length accounts ≤ MOST_LINES → length (assignedLines accounts amounts) ≤ 22545
 unfolding assignedLines ascii lineCount
-assigned-printable t few =
-    let cs : List (List ℕ) = t .accounts ∷ assigned t ∷ [] in
-    record { some = omega arith; most = omega (arith, length-append (ascii "account,assigned\n") (writeRows (rowsOf cs)), rows-room cs) }
+assigned-room accounts amounts few =
+    let cs : List (List ℕ) = accounts ∷ amounts ∷ [] in
+    omega (arith, length-append (ascii "account,assigned\n") (writeRows (rowsOf cs)), rows-room cs)
 
-lines-printable : (r : Result Series) → ((t : Series) → r ≡ value t → length (t .accounts) ≤ MOST_LINES) → Printable (length (linesFor r))
+-- the account's line among the ranges: ten digits, and eight for each number up to 20,000,001
+range-row : (a f l g m : ℕ) → f < 10 ^ 8 → l < 10 ^ 8 → g < 10 ^ 8 → m < 10 ^ 8 → length (writeRow (a ∷ f ∷ l ∷ g ∷ m ∷ [])) ≤ 47
+unfolding writeRow
+range-row a f l g m hf hl hg hm =
+    omega (
+      arith,
+      length-row a (f ∷ l ∷ g ∷ m ∷ []),
+      length-row f (l ∷ g ∷ m ∷ []),
+      length-row l (g ∷ m ∷ []),
+      length-row g (m ∷ []),
+      length-row m [],
+      digits-few a,
+      digits-within 7 f hf,
+      digits-within 7 l hl,
+      digits-within 7 g hg,
+      digits-within 7 m hm,
+    )
+
+range-room : (accounts shorts : List ℕ) → length accounts ≡ length shorts → length accounts ≤ MOST_LINES → total shorts ≤ MOST_CONTRACTS → length (rangeLines accounts shorts) ≤ 48160
+unfolding rangeLines rangeColumns rowsOf secondRange ascii
+range-room accounts shorts same few small =
+    omega (arith, length-append (ascii "account,first,last,first2,last2\n") (writeRows (rowsOf (rangeColumns accounts shorts))), lines-most (rowOf (rangeColumns accounts shorts)) 47 (length accounts) each)
+  where
+    -- a number of the column f is f i
+    at : (f : ℕ → ℕ) (i : ℕ) → i < length accounts → getD (listed f (length shorts)) i 0 ≡ f i
+    at f i h = getD-listed f (length shorts) i (omega (arith, same))
+
+    each : (i : ℕ) → i < length accounts → length (writeRow (rowOf (rangeColumns accounts shorts) i)) ≤ 47
+    each i h =
+        let within = ranges-within shorts i (omega (arith, same)) in
+        range-row (getD accounts i 0) _ _ _ _
+        (omega (arith, at (λ j. firstRange shorts j .first) i h, within .0))
+        (omega (arith, at (λ j. firstRange shorts j .last) i h, within .1))
+        (omega (arith, at (λ j. secondRange shorts j .first) i h, within .0))
+        (omega (arith, at (λ j. secondRange shorts j .last) i h, within .1))
+
+-- the list fits a text, and was judged
+record Small (t : Series) : Type 0 where
+  same : length (t .accounts) ≡ length (t .shorts)
+  few : length (t .accounts) ≤ MOST_LINES
+  contracts : total (t .shorts) ≤ MOST_CONTRACTS
+
+ranges-room : (t : Series) → Small t → length (rangesBy (method t) (t .accounts) (t .shorts)) ≤ 48160
+unfolding rangesBy
+ranges-room t s = by-cases (method t)
+  where
+    by-cases : (m : Method) → length (rangesBy m (t .accounts) (t .shorts)) ≤ 48160
+    by-cases Method.Wheel = omega arith
+    by-cases Method.ProRata = omega arith
+    by-cases Method.Lottery = omega arith
+    by-cases Method.RemainderDraw = range-room (t .accounts) (t .shorts) (s .same) (s .few) (s .contracts)
+
+assigned-printable : (t : Series) → Small t → Printable (length (assignedLines (t .accounts) (assigned t) ++ rangesBy (method t) (t .accounts) (t .shorts)))
+unfolding assignedLines ascii
+assigned-printable t s =
+    let both = length-append (assignedLines (t .accounts) (assigned t)) (rangesBy (method t) (t .accounts) (t .shorts)) in
+    record { some = omega arith; most = omega (arith, both, assigned-room (t .accounts) (assigned t) (s .few), ranges-room t s) }
+
+lines-printable : (r : Result Series) → ((t : Series) → r ≡ value t → Small t) → Printable (length (linesFor r))
 unfolding linesFor
-lines-printable (refused n) few = refused-printable n
-lines-printable (value t) few = assigned-printable t (few t refl)
+lines-printable (refused n) small = refused-printable n
+lines-printable (value t) small = assigned-printable t (small t refl)
 
 -- the series of a text has at most 1,024 positions
-few-in-text : (s : Text) (t : Series) → textOrRefusal s ≡ value t → length (t .accounts) ≤ MOST_LINES
+small-in-text : (s : Text) (t : Series) → textOrRefusal s ≡ value t → Small t
 unfolding textOrRefusal seriesOrRefusal
-few-in-text s t e =
+small-in-text s t e =
     let read = stepped (readText s) _ t e in
     let judged = stepped (verdict (read .from) (length (read .from .shorts))) _ t (read .on) in
     let is : read .from ≡ t = value-is (judged .on) in
-    few-positions s t (rw is at (read .step)) .few
+    let facts = accepted-facts (read .from) _ (verdict-accepted (read .from) _ _ (judged .step)) in
+    subst Small is (record { same = facts .lengths; few = few-positions s (read .from) (read .step) .few; contracts = facts .total-most })
 
 pub printed-room : (s : Text) → Printable (length (printed s))
 unfolding printed
-printed-room s = lines-printable (textOrRefusal s) (few-in-text s)
+printed-room s = lines-printable (textOrRefusal s) (small-in-text s)
 
 -- all that is printed for a text stands in an output with room for it
 pub printed-whole : (s : Text) (r : Response) (v : ℕ) (old new : Text) → MOST_PRINTED ≤ length old → Responds r (printed s) v old new → Whole (responseOf r .written) (printed s) new

@@ -6,6 +6,7 @@ use lib.Dec.{ltb}
 use lib.ListN.{length, take}
 use Rattle.series.specs.Answers.{numberOf}
 use Rattle.series.specs.Outputs.{ontoRoom}
+use Rattle.series.specs.Results.{Result, refused, value}
 use Rattle.series_text.specs.Fields.{Text}
 use Rattle.assignment_text.specs.declared.Response.{Response}
 
@@ -18,6 +19,11 @@ pub record Printing : Type 0 where
 abbrev pub responseOf : Response → Printing
 responseOf (Response.Assigned n) = record { written = n; refusal = 0 }
 responseOf (Response.Refused n r) = record { written = n; refusal = numberOf r }
+
+-- what is handed back for an allocation that was written, by its length, or refused: then it did not fit
+abbrev pub writtenHands : Result ℕ → Printing
+writtenHands (value n) = record { written = n; refusal = 0 }
+writtenHands (refused n) = record { written = 0; refusal = 4 }
 
 -- printing the text s, which tells this refusal or 0, to an output of length room: nothing and 4 where it is shorter
 unfoldable pub printInto : Text → ℕ → ℕ → Printing

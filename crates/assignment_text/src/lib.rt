@@ -1,14 +1,21 @@
 // From a text to the bytes that the program prints.
+mod ranges;
+
 ghost use mathlib.Core.Path.{_≡_};
 ghost use Prim.Native.Nat.{_≤_};
+ghost use mathlib.Core.List.{_++_};
 ghost use lib.ListN.{length};
 ghost use Rattle.series.specs.Answers.{numberOf};
 ghost use Rattle.series.specs.Results.{status};
+ghost use Rattle.series.specs.Places.{total as totalOf};
+ghost use Rattle.series.specs.Series.{MOST_CONTRACTS};
 ghost use Rattle.series_text.specs.Text.{MOST_LINES};
-ghost use Rattle.assignment_text.specs.Printed.{refusedLines, assignedLines, seriesOrRefusal, textOrRefusal, linesFor, printed};
-ghost use Rattle.assignment_text.specs.Responses.{Responds};
-ghost use Rattle.assignment_text.specs.Lists.{Lists};
+ghost use Rattle.text_writing.specs.Answers.{writingOf};
+ghost use Rattle.assignment_text.specs.Printed.{refusedLines, assignedLines, rangeLines, rangesBy, seriesOrRefusal, textOrRefusal, linesFor, printed};
+ghost use Rattle.assignment_text.specs.Responses.{responseOf, writtenHands, Responds};
+ghost use Rattle.assignment_text.specs.Lists.{Lists, RangeLists};
 use series::Answer;
+use series::Method;
 use series::Refusal;
 use series::Terms;
 use series_text::Reading;
@@ -16,6 +23,9 @@ use text_writing::Writing;
 
 // The line before the amounts of an allocation.
 const ASSIGNED_NAMES: [u8; 17] = *b"account,assigned\n";
+
+// The line before the ranges, which R has after the amounts.
+const RANGE_NAMES: [u8; 32] = *b"account,first,last,first2,last2\n";
 
 // The line before the number of a refusal.
 const REFUSED_LINE: [u8; 8] = *b"refused\n";
@@ -36,14 +46,95 @@ fn refuse(refusal: Refusal, output: &mut [u8]) -> Response
     }
 }
 
+// What is answered for an allocation, after it was written or did not fit.
+fn answer_written(writing: Writing) -> Response
+    ensures { λ r. ⌜ responseOf r ≡ writtenHands (writingOf writing) ⌝ }
+{
+    match writing {
+        Writing::Written(n) => Response::Assigned(n),
+        Writing::Refused(_) => Response::Refused(0, Refusal::OutputTooShort),
+    }
+}
+
 // Prints the amounts of an allocation.
 fn print(accounts: &[u32], amounts: &[u32], output: &mut [u8]) -> Response
     requires { ⌜ (length (now accounts) ≡ length (now amounts)) × (length (now accounts) ≤ MOST_LINES) ⌝ }
     ensures { λ r. ⌜ Responds r (assignedLines (now (accounts .entry)) (now (amounts .entry))) 0 (now (output .entry)) (now (output .exit)) ⌝ }
 {
-    match text_writing::write_table(&ASSIGNED_NAMES, accounts, amounts, output) {
-        Writing::Written(n) => Response::Assigned(n),
-        Writing::Refused(_) => Response::Refused(0, Refusal::OutputTooShort),
+    let writing = text_writing::write_table(&ASSIGNED_NAMES, accounts, amounts, output);
+    answer_written(writing)
+}
+
+// Prints the amounts of an allocation and the ranges, which are made in lent lists.
+fn print_ranges(
+    accounts: &[u32],
+    shorts: &[u32],
+    amounts: &[u32],
+    firsts: &mut [u32],
+    lasts: &mut [u32],
+    firsts2: &mut [u32],
+    lasts2: &mut [u32],
+    output: &mut [u8],
+) -> Response
+    requires { ⌜ Lists (now accounts) (now shorts) (now amounts) × RangeLists (now shorts) (now firsts) (now lasts) (now firsts2) (now lasts2) ⌝ }
+    ensures { λ r. ⌜ Responds r (assignedLines (now (accounts .entry)) (now (amounts .entry)) ++ rangeLines (now (accounts .entry)) (now (shorts .entry))) 0 (now (output .entry)) (now (output .exit)) ⌝ }
+{
+    ranges::fill(shorts, firsts, lasts, firsts2, lasts2);
+    let writing = text_writing::write_tables(
+        &ASSIGNED_NAMES,
+        accounts,
+        amounts,
+        &RANGE_NAMES,
+        firsts,
+        lasts,
+        firsts2,
+        lasts2,
+        output,
+    );
+    answer_written(writing)
+}
+
+// Prints the amounts of an allocation and the ranges.
+fn print_with_ranges(
+    accounts: &[u32],
+    shorts: &[u32],
+    amounts: &[u32],
+    output: &mut [u8],
+) -> Response
+    requires { ⌜ Lists (now accounts) (now shorts) (now amounts) × (totalOf (now shorts) ≤ MOST_CONTRACTS) ⌝ }
+    ensures { λ r. ⌜ Responds r (assignedLines (now (accounts .entry)) (now (amounts .entry)) ++ rangeLines (now (accounts .entry)) (now (shorts .entry))) 0 (now (output .entry)) (now (output .exit)) ⌝ }
+{
+    let n = shorts.len();
+    let mut firsts = [0u32; 1024];
+    let mut lasts = [0u32; 1024];
+    let mut firsts2 = [0u32; 1024];
+    let mut lasts2 = [0u32; 1024];
+    print_ranges(
+        accounts,
+        shorts,
+        amounts,
+        &mut firsts[..n],
+        &mut lasts[..n],
+        &mut firsts2[..n],
+        &mut lasts2[..n],
+        output,
+    )
+}
+
+// Prints an allocation by the method: its amounts, and under R the ranges after them.
+fn print_by(
+    method: Method,
+    accounts: &[u32],
+    shorts: &[u32],
+    amounts: &[u32],
+    output: &mut [u8],
+) -> Response
+    requires { ⌜ Lists (now accounts) (now shorts) (now amounts) × (totalOf (now shorts) ≤ MOST_CONTRACTS) ⌝ }
+    ensures { λ r. ⌜ Responds r (assignedLines (now (accounts .entry)) (now (amounts .entry)) ++ rangesBy method (now (accounts .entry)) (now (shorts .entry))) 0 (now (output .entry)) (now (output .exit)) ⌝ }
+{
+    match method {
+        Method::RemainderDraw => print_with_ranges(accounts, shorts, amounts, output),
+        _ => print(accounts, amounts, output),
     }
 }
 
@@ -61,7 +152,8 @@ fn assign(
 {
     let answer = allocation::allocate(terms, codes, accounts, shorts, amounts);
     let Answer::Refused(refusal) = answer else {
-        return print(accounts, amounts, output);
+        let method = terms.method;
+        return print_by(method, accounts, shorts, amounts, output);
     };
     refuse(refusal, output)
 }

@@ -20,7 +20,7 @@ use Rattle.assignment_text.specs.Printed.{printed}
 use Rattle.assignment_text.specs.Responses.{Printing, responseOf, printInto, Responds}
 use Rattle.assignment_text.specs.declared.Response.{Response}
 use Rattle.assignment_text.proofs.RoomLaws.{printed-room}
-use Rattle.dilbreth.specs.Exports.{seriesBy, called, Allocates, Reads, writtenBy, printedInto, Writes}
+use Rattle.dilbreth.specs.Exports.{seriesBy, called, Handing, handedNumbers, Allocates, Reads, writtenBy, printedInto, Writes}
 
 -- the values of a series with a known method
 abbrev termsOf : Method → ℕ → ℕ → Terms
@@ -31,6 +31,22 @@ by-length : (s : Result Text) (w : Result ℕ) (old new : Text) (n : ℕ) → w 
 unfolding lengthOf
 by-length (refused k) w old new n ew en = rw ew (record { answers = refl; writes = en; hands-length = refl })
 by-length (value t) w old new n ew en = rw ew (record { answers = refl; writes = en; hands-length = refl })
+
+-- the numbers of an answer
+status-is : (a : Result Allocation) → status (handedNumbers a) ≡ status a
+unfolding handedNumbers
+status-is (refused n) = refl
+status-is (value x) = refl
+
+total-is : (a : Result Allocation) (T : ℕ) → after (handedNumbers a) (λ x. x .total) T ≡ after a (λ x. x .total) T
+unfolding handedNumbers
+total-is (refused n) T = refl
+total-is (value x) T = refl
+
+further-is : (a : Result Allocation) (f : ℕ) → after (handedNumbers a) (λ x. x .further) f ≡ after a (λ x. handedBack (x .further)) f
+unfolding handedNumbers
+further-is (refused n) f = refl
+further-is (value x) f = refl
 
 module _ (l S draw : ℕ) (codes accounts shorts : List ℕ) where
   by-unknown : refused 14 ≡ methodBy l → seriesBy l S draw codes accounts shorts ≡ refused 14
@@ -45,11 +61,11 @@ module _ (l S draw : ℕ) (codes accounts shorts : List ℕ) where
   unfolding called
   allocate-unknown e old T f = rw (by-unknown e) (record { answers = refl; writes = refl; hands-total = refl; hands-further = refl })
 
-  pub allocate-known : (m : Method) → value m ≡ methodBy l → (t : Terms) → t ≡ termsOf m S draw → (a : Result Allocation) (old new : List ℕ) (T f : ℕ) → a ≡ answer (record { terms = t; codes = codes; accounts = accounts; shorts = shorts }) (length old) → new ≡ output (record { terms = t; codes = codes; accounts = accounts; shorts = shorts }) old
-      → Allocates (seriesBy l S draw codes accounts shorts) (status a) old new (record { old = T; new = after a (λ x. x .total) T }) (record { old = f; new = after a (λ x. handedBack (x .further)) f })
+  pub allocate-known : (m : Method) → value m ≡ methodBy l → (t : Terms) → t ≡ termsOf m S draw → (a : Result Allocation) (h : Result Handing) (old new : List ℕ) (T f : ℕ) → h ≡ handedNumbers a → a ≡ answer (record { terms = t; codes = codes; accounts = accounts; shorts = shorts }) (length old) → new ≡ output (record { terms = t; codes = codes; accounts = accounts; shorts = shorts }) old
+      → Allocates (seriesBy l S draw codes accounts shorts) (status h) old new (record { old = T; new = after h (λ x. x .total) T }) (record { old = f; new = after h (λ x. x .further) f })
   unfolding called
-  allocate-known m e t et a old new T f ea en =
-      rw (by-known m e, ← et) (record { answers = ap status ea; writes = en; hands-total = ap (λ r. after r (λ x. x .total) T) ea; hands-further = ap (λ r. after r (λ x. handedBack (x .further)) f) ea })
+  allocate-known m e t et a h old new T f eh ea en =
+      rw (by-known m e, ← et, eh) (record { answers = status-is a ∙ ap status ea; writes = en; hands-total = total-is a T ∙ ap (λ r. after r (λ x. x .total) T) ea; hands-further = further-is a f ∙ ap (λ r. after r (λ x. handedBack (x .further)) f) ea })
 
   pub write-unknown : refused 14 ≡ methodBy l → (old : Text) (n : ℕ) → Writes (writtenBy (seriesBy l S draw codes accounts shorts) (length old)) 14 old old (record { old = n; new = n })
   unfolding writtenBy

@@ -4,7 +4,7 @@ use mathlib.Core.Path.{_≡_}
 use mathlib.Core.List.{List}
 use lib.Dec.{ltb}
 use lib.ListN.{length}
-use Rattle.series.specs.Results.{Result, value, _>>=_, refuse, after, status}
+use Rattle.series.specs.Results.{Result, refused, value, _>>=_, refuse, after, status}
 use Rattle.series.specs.Outputs.{onto}
 use Rattle.series.specs.Series.{Series, method, exercised, draw}
 use Rattle.series.specs.Answers.{Allocation, handedBack}
@@ -13,6 +13,7 @@ use Rattle.series_text.specs.Fields.{Text}
 use Rattle.series_text.specs.Letters.{letter, methodBy}
 use Rattle.series_text.specs.Calls.{writeInto}
 use Rattle.assignment_text.specs.Printed.{printed}
+use Rattle.dilbreth.specs.declared.Numbers.{Numbers}
 
 -- the series whose method comes as its letter; any other byte is 14 before all other refusals
 unfoldable pub seriesBy : ℕ → ℕ → ℕ → List ℕ → List ℕ → List ℕ → Result Series
@@ -25,6 +26,22 @@ unfoldable pub called : Result Series → ℕ → Result Allocation
 called r room = do
   s ← r
   answer s room
+
+-- the numbers that an allocation hands back: T and the further number, 0 where there is none
+pub record Handing : Type 0 where
+  pub total : ℕ
+  pub further : ℕ
+
+-- those of an answer
+unfoldable pub handedNumbers : Result Allocation → Result Handing
+handedNumbers r = do
+  a ← r
+  value (record { total = a .total; further = handedBack (a .further) })
+
+-- those of each case of Numbers
+abbrev pub numbersMean : Numbers → Result Handing
+numbersMean (Numbers.Allocated T f) = value (record { total = T; further = f })
+numbersMean (Numbers.Refused n) = refused n
 
 -- a number that stood behind an argument, and the one that stands there after the call
 pub record Number : Type 0 where

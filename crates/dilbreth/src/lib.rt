@@ -12,10 +12,11 @@ use series_text::letters::Named;
 use text_writing::Writing;
 ghost use mathlib.Core.Path.{_≡_};
 ghost use lib.ListN.{length};
-ghost use Rattle.series.specs.Results.{after};
+ghost use Rattle.series.specs.Results.{value, after};
+ghost use Rattle.series.specs.Answers.{answerOf};
 ghost use Rattle.series.specs.Outputs.{onto};
 ghost use Rattle.series_text.specs.Calls.{readInto};
-ghost use Rattle.dilbreth.specs.Exports.{seriesBy, Allocates, Reads, writtenBy, printedInto, Writes};
+ghost use Rattle.dilbreth.specs.Exports.{seriesBy, numbersMean, handedNumbers, Allocates, Reads, writtenBy, printedInto, Writes};
 
 // The values of a series, from numbers.
 fn terms_of(method: Method, exercised: u32, draw: u32) -> Terms
@@ -28,7 +29,38 @@ fn terms_of(method: Method, exercised: u32, draw: u32) -> Terms
     }
 }
 
-// Assigns exercised contracts by the method W, P or L; any other letter is 14.
+// What an answer hands back to C: T and the further number, 0 where there is none; or the number of the refusal.
+enum Numbers {
+    Allocated { total: u32, further: u32 },
+    Refused(u32),
+}
+
+// The numbers of an allocation.
+fn allocated(total: Contracts, further: u32) -> Numbers
+    ensures { λ r. ⌜ numbersMean r ≡ value (record { total = total .0; further = further }) ⌝ }
+{
+    Numbers::Allocated {
+        total: total.0,
+        further,
+    }
+}
+
+// The numbers of an answer.
+fn numbers_of(answer: Answer) -> Numbers
+    ensures { λ r. ⌜ numbersMean r ≡ handedNumbers (answerOf answer) ⌝ }
+{
+    match answer {
+        Answer::Wheel { total, blocks } => allocated(total, blocks),
+        Answer::ProRata { total, remainder } => allocated(total, remainder.0),
+        Answer::Lottery { total, start } => allocated(total, start.0),
+        Answer::LotteryUndrawn { total } => allocated(total, 0),
+        Answer::RemainderDraw { total, start } => allocated(total, start.0),
+        Answer::RemainderUndrawn { total } => allocated(total, 0),
+        Answer::Refused(refusal) => Numbers::Refused(series::number(refusal)),
+    }
+}
+
+// Assigns exercised contracts by the method W, P, L or R; any other letter is 14.
 #[no_mangle]
 pub extern "C" fn dilbreth_allocate(
     method: u8,
@@ -47,31 +79,17 @@ pub extern "C" fn dilbreth_allocate(
         return 14;
     };
     let terms = terms_of(named, exercised, draw);
-    match allocation::allocate(terms, codes, accounts, shorts, amounts) {
-        Answer::Wheel { total: sum, blocks } => {
-            *total = sum.0;
-            *further = blocks;
-            0
-        }
-        Answer::ProRata {
+    let answer = allocation::allocate(terms, codes, accounts, shorts, amounts);
+    match numbers_of(answer) {
+        Numbers::Allocated {
             total: sum,
-            remainder,
+            further: number,
         } => {
-            *total = sum.0;
-            *further = remainder.0;
+            *total = sum;
+            *further = number;
             0
         }
-        Answer::Lottery { total: sum, start } => {
-            *total = sum.0;
-            *further = start.0;
-            0
-        }
-        Answer::LotteryUndrawn { total: sum } => {
-            *total = sum.0;
-            *further = 0;
-            0
-        }
-        Answer::Refused(refusal) => series::number(refusal),
+        Numbers::Refused(number) => number,
     }
 }
 
@@ -108,7 +126,7 @@ pub extern "C" fn dilbreth_read(
     }
 }
 
-// Writes the text of a series; any letter but W, P and L is 14 before the other refusals.
+// Writes the text of a series; any letter but W, P, L and R is 14 before the other refusals.
 #[no_mangle]
 pub extern "C" fn dilbreth_write(
     method: u8,

@@ -11,7 +11,7 @@ refusals =
     ascii "there are more than 4,096 positions\n" ∷
     ascii "there are no positions\n" ∷
     ascii "an output is too short\n" ∷
-    ascii "a code (W) or account (P,L) is 0 or does not rise\n" ∷
+    ascii "a code (W) or account (P,L,R) is 0 or not rising\n" ∷
     ascii "a position has no short contracts\n" ∷
     ascii "the positions hold more than 10,000,000 contracts\n" ∷
     ascii "no contract is exercised\n" ∷
@@ -20,7 +20,7 @@ refusals =
     ascii "the text has, or would have, over 32,768 bytes\n" ∷
     ascii "line 1 or line 3 is missing or not exact\n" ∷
     ascii "bad line 2 or position line (number: 1-10 digits)\n" ∷
-    ascii "the method is not W, P or L\n" ∷
+    ascii "the method is not W, P, L or R\n" ∷
     ascii "there are more than 1,024 positions in a text\n" ∷
     ascii "a count of the day is above 10,000,000\n" ∷
     ascii "closing purchases exceed short plus opening sales\n" ∷

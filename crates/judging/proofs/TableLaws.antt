@@ -58,6 +58,10 @@ pub pro-rata-drawn : (t : Terms) (T : ℕ) → t .method ≡ Method.ProRata → 
 unfolding drawRows first
 pro-rata-drawn t T e = rw e
 
+pub remainder-drawn : (t : Terms) (T : ℕ) → t .method ≡ Method.RemainderDraw → value T ≡ first (drawRows t T) T
+unfolding drawRows first
+remainder-drawn t T e = rw e
+
 -- the draw is taken, or it is refused
 pub draw-taken : (T : ℕ) (b : Bool) → b ≡ true → value T ≡ first (not b ⟶ 10 ∣ []) T
 unfolding first
@@ -171,6 +175,7 @@ unfolding accountRefused
 new-account Method.Wheel a before some new = rw (ne-eqb a 0 some) new
 new-account Method.ProRata a before some new = refl
 new-account Method.Lottery a before some new = refl
+new-account Method.RemainderDraw a before some new = refl
 
 -- under W account 0 is refused, and any other is looked up
 pub no-account : (a : ℕ) (before : List ℕ) → a ≡ 0 → accountRefused Method.Wheel before a ≡ true
@@ -277,6 +282,7 @@ pub by-account : (m : Method) (accounts shorts : List ℕ) (room : ℕ) → firs
 by-account Method.Wheel accounts shorts room = refl
 by-account Method.ProRata accounts shorts room = refl
 by-account Method.Lottery accounts shorts room = refl
+by-account Method.RemainderDraw accounts shorts room = refl
 
 -- a list is judged with an output of its own length
 pub judged-list : (m : Method) (codes accounts shorts : List ℕ) (v : Result ℕ) → v ≡ first (listRows m (orderedBy m codes accounts) accounts shorts (length shorts)) (total shorts) → v ≡ listVerdict m codes accounts shorts
@@ -300,15 +306,13 @@ module _ (t : Terms) (T n : ℕ) where
   unfolding undrawn
   pro-rata-undrawn e = rw e
 
-  -- under L, where S equals T
-  pub lottery-undrawn : t .method ≡ Method.Lottery → eqb (t .exercised .0) T ≡ true → eqb (t .exercised .0) T ≡ undrawn t T n
+  pub lottery-undrawn : t .method ≡ Method.Lottery → (eqb (t .exercised .0) T || eqb n 1) ≡ undrawn t T n
   unfolding undrawn unstarted
-  lottery-undrawn e whole = rw (e, whole)
+  lottery-undrawn e = rw e
 
-  -- under L, where it does not
-  pub lottery-undrawn-by-positions : t .method ≡ Method.Lottery → eqb (t .exercised .0) T ≡ false → eqb n 1 ≡ undrawn t T n
+  pub remainder-undrawn : t .method ≡ Method.RemainderDraw → (eqb (t .exercised .0) T || eqb n 1) ≡ undrawn t T n
   unfolding undrawn unstarted
-  lottery-undrawn-by-positions e part = rw (e, part)
+  remainder-undrawn e = rw e
 
 -- ---- what is exercised
 

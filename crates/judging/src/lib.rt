@@ -177,7 +177,7 @@ fn judge_by_code(codes: &[u32], accounts: &[u32], shorts: &[u32], room: usize) -
     }
 }
 
-// The list under P and L: it rises by its accounts, so that none falls without 5. The promise holds for W too, where every code is its account.
+// The list under P, L and R: it rises by its accounts, so that none falls without 5. The promise holds for W too, where every code is its account.
 fn judge_by_account(accounts: &[u32], shorts: &[u32], room: usize) -> Judged
     ensures { λ r. ⌜ ((m : Method·) → judgedOf r ≡ first (listRows m (now (accounts .entry)) (now (accounts .entry)) (now (shorts .entry)) room) (totalOf (now (shorts .entry)))) ⌝ }
 {
@@ -195,6 +195,7 @@ fn judge_by(method: Method, codes: &[u32], accounts: &[u32], shorts: &[u32], roo
         Method::Wheel => judge_by_code(codes, accounts, shorts, room),
         Method::ProRata => judge_by_account(accounts, shorts, room),
         Method::Lottery => judge_by_account(accounts, shorts, room),
+        Method::RemainderDraw => judge_by_account(accounts, shorts, room),
     }
 }
 
@@ -234,20 +235,25 @@ fn judge_draw(terms: Terms, total: Contracts) -> Judged
                 return Judged::Accepted(total);
             }
         }
+        Method::RemainderDraw => {
+            return Judged::Accepted(total);
+        }
     }
     Judged::Refused(Refusal::DrawOutOfRange)
 }
 
-// Whether a call is decided before the draw: S equals T, under W and L; then, under L only, one position.
+// Whether a call is decided before the draw: S equals T, under W, L and R; then, under L and R only, one position.
 fn is_undrawn(terms: Terms, total: Contracts, positions: usize) -> bool
     ensures { λ r. ⌜ r ≡ undrawn terms (total .0) positions ⌝ }
 {
     let method = terms.method;
     let whole = terms.exercised.0 == total.0;
+    let unstarted = whole | (positions == 1);
     match method {
         Method::Wheel => whole,
         Method::ProRata => false,
-        Method::Lottery => whole || positions == 1,
+        Method::Lottery => unstarted,
+        Method::RemainderDraw => unstarted,
     }
 }
 
@@ -288,7 +294,7 @@ pub fn judge(terms: Terms, codes: &[u32], accounts: &[u32], shorts: &[u32], room
     judge_after(terms, listed, shorts.len())
 }
 
-// Judges a whole call of a series whose codes are its accounts. Under P and L that is the verdict for any codes.
+// Judges a whole call of a series whose codes are its accounts. Under P, L and R that is the verdict for any codes.
 pub fn judge_uncoded(terms: Terms, accounts: &[u32], shorts: &[u32], room: usize) -> Judged
     ensures { λ r. ⌜ judgedOf r ≡ verdict (record { terms = terms; codes = now (accounts .entry); accounts = now (accounts .entry); shorts = now (shorts .entry) }) room ⌝ }
 {

@@ -54,10 +54,11 @@ aside-draw : (t : Terms) (T : ℕ) → aside (drawRows t T) ≡ []
 unfolding drawRows aside leftAside
 aside-draw t T = by-cases (t .method)
   where
-    by-cases : (m : Method) → aside (byMethod m (outside T (t .draw) ⟶ 10 ∣ []) [] (outside 10000 (t .draw) ⟶ 10 ∣ [])) ≡ []
+    by-cases : (m : Method) → aside (byMethod m (outside T (t .draw) ⟶ 10 ∣ []) [] (outside 10000 (t .draw) ⟶ 10 ∣ []) []) ≡ []
     by-cases Method.Wheel = refl
     by-cases Method.ProRata = refl
     by-cases Method.Lottery = refl
+    by-cases Method.RemainderDraw = refl
 
 aside-then-draw : (t : Terms) (T n : ℕ) → aside (thenDrawRows t T n) ≡ []
 unfolding thenDrawRows aside

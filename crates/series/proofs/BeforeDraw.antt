@@ -10,6 +10,7 @@ use Rattle.series.specs.Series.{Series, method, exercised, draw, held, b
 use Rattle.series.specs.Wheel.{wheel}
 use Rattle.series.specs.ProRata.{proRata}
 use Rattle.series.specs.Lottery.{startingPlace, lottery, lotteryAmounts}
+use Rattle.series.specs.RemainderDraw.{remainderPlace}
 use Rattle.series.specs.Refusals.{Row, _⟶_∣_, first, NoneApplies, lengthRows, roomRows, positionRows, exercisedRows, outside, undrawn, drawRows, thenDrawRows, listRows, rows, verdict}
 use Rattle.series.specs.Call.{INCREMENT, assigned}
 use Rattle.series.specs.declared.Method.{Method}
@@ -20,6 +21,7 @@ use Rattle.series.proofs.RowLaws.{first-append, value-passed, value-sam
 use Rattle.series.proofs.AcceptedLaws.{Facts, accepted-facts, verdict-accepted}
 use Rattle.series.proofs.CallLaws.{lottery-draw, starting-on}
 use Rattle.series.proofs.LotteryLaws.{lottery-amounts}
+use Rattle.series.proofs.RemainderLaws.{remainder-on}
 use Rattle.series.proofs.Starred.{series, calledOn, allocated, undrawnBy, turnedAway, M-shorts}
 
 abbrev MOST_DRAW : ℕ
@@ -51,13 +53,13 @@ pub decided-known : map calledOn decided ≡
     allocated Wheel 36 0 M-shorts ∷
     allocated Wheel 36 0 M-shorts ∷
     allocated Wheel 36 0 M-shorts ∷
-    undrawnBy 36 M-shorts ∷
-    undrawnBy 36 M-shorts ∷
-    undrawnBy 36 M-shorts ∷
-    undrawnBy 36 (13 ∷ []) ∷
-    undrawnBy 36 (13 ∷ []) ∷
-    undrawnBy 36 (13 ∷ []) ∷
-    undrawnBy 36 (36 ∷ []) ∷
+    undrawnBy Lottery 36 M-shorts ∷
+    undrawnBy Lottery 36 M-shorts ∷
+    undrawnBy Lottery 36 M-shorts ∷
+    undrawnBy Lottery 36 (13 ∷ []) ∷
+    undrawnBy Lottery 36 (13 ∷ []) ∷
+    undrawnBy Lottery 36 (13 ∷ []) ∷
+    undrawnBy Lottery 36 (36 ∷ []) ∷
     turnedAway 1 10 ∷
     allocated Wheel 36 0 (36 ∷ []) ∷
     turnedAway 1 8 ∷
@@ -88,13 +90,14 @@ module _ (s : Series) (room : ℕ) where
       ap (λ xs. first xs (held s)) (sym (append-assoc (listRows (method s) (order s) (s .accounts) (s .shorts) room) (exercisedRows (held s) (exercised s)) draws))
       ∙ first-append above draws (held s)
 
--- and under L every amount came from the starting place
+-- and under L, and so under R, every amount came from the starting place
 pub earlierAssigned : Series → List ℕ
 earlierAssigned s =
     byMethod (method s)
     (wheel INCREMENT (s .shorts) (exercised s) (draw s))
     (proRata (s .shorts) (exercised s) (draw s))
     (lottery (s .shorts) (exercised s) (startingPlace (held s) (draw s)))
+    (lottery (s .shorts) (exercised s) (remainderPlace (held s) (draw s)))
 
 -- ---- rows below a result r, and none where b
 
@@ -125,10 +128,11 @@ draw-ten : (t : Terms) (T T′ n : ℕ) → first (drawRows t T) T′ ≡ refuse
 unfolding drawRows first
 draw-ten t T T′ n = by-cases (t .method)
   where
-    by-cases : (m : Method) → first (byMethod m (outside T (t .draw) ⟶ 10 ∣ []) [] (outside 10000 (t .draw) ⟶ 10 ∣ [])) T′ ≡ refused n → n ≡ 10
+    by-cases : (m : Method) → first (byMethod m (outside T (t .draw) ⟶ 10 ∣ []) [] (outside 10000 (t .draw) ⟶ 10 ∣ []) []) T′ ≡ refused n → n ≡ 10
     by-cases Method.Wheel h = row-ten (outside T (t .draw)) T′ n h
     by-cases Method.ProRata h = absurd (never n T′ (sym h))
     by-cases Method.Lottery h = row-ten (outside 10000 (t .draw)) T′ n h
+    by-cases Method.RemainderDraw h = absurd (never n T′ (sym h))
 
 -- no row has the number 10
 NoTen : List Row → Type 0
@@ -197,12 +201,13 @@ module _ (s : Series) (room : ℕ) where
       drawn : NoneApplies draws
       drawn = let step = stepped (first (above s room) (held s)) (first draws) T (sym earlier-parts ∙ h) in value-passed draws (step .from) T (step .on)
 
-      by-cases : (m : Method) → method s ≡ m → byMethod m (wheel INCREMENT (s .shorts) (exercised s) (draw s)) (proRata (s .shorts) (exercised s) (draw s)) (lotteryAmounts (s .shorts) (exercised s) (startingPlace (held s) (draw s)))
-          ≡ byMethod m (wheel INCREMENT (s .shorts) (exercised s) (draw s)) (proRata (s .shorts) (exercised s) (draw s)) (lottery (s .shorts) (exercised s) (startingPlace (held s) (draw s)))
+      by-cases : (m : Method) → method s ≡ m → byMethod m (wheel INCREMENT (s .shorts) (exercised s) (draw s)) (proRata (s .shorts) (exercised s) (draw s)) (lotteryAmounts (s .shorts) (exercised s) (startingPlace (held s) (draw s))) (lotteryAmounts (s .shorts) (exercised s) (remainderPlace (held s) (draw s)))
+          ≡ byMethod m (wheel INCREMENT (s .shorts) (exercised s) (draw s)) (proRata (s .shorts) (exercised s) (draw s)) (lottery (s .shorts) (exercised s) (startingPlace (held s) (draw s))) (lottery (s .shorts) (exercised s) (remainderPlace (held s) (draw s)))
       by-cases Method.Wheel e = refl
       by-cases Method.ProRata e = refl
       by-cases Method.Lottery e =
-          lottery-amounts (s .shorts) (exercised s) (startingPlace (held s) (draw s)) (starting-on (held s) (draw s) (omega (arith, facts .exercised-some, facts .exercised-most)) (lottery-draw (s .terms) (held s) e drawn))
+          lottery-amounts (s .shorts) (exercised s) (startingPlace (held s) (draw s)) (starting-on (held s) (draw s) (facts .total-some) (lottery-draw (s .terms) (held s) e drawn))
+      by-cases Method.RemainderDraw e = lottery-amounts (s .shorts) (exercised s) (remainderPlace (held s) (draw s)) (remainder-on (held s) (draw s) (facts .total-some))
 
   -- a call that was refused is refused alike, 10 alone excepted
   pub still-refused : (n : ℕ) → earlierVerdict s room ≡ refused n → (n ≡ 10 → ⊥) → verdict s room ≡ refused n

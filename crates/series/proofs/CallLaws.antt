@@ -48,10 +48,10 @@ module _ (s : Series) (room T : ℕ) (v : verdict s room ≡ value T) where
       passed-append (exercisedRows (held s) (exercised s)) draws terms .1
 
 -- another method than W
-pub not-wheel : (m : Method) → byMethod m true false false ≡ false → m ≡ Method.Wheel → ⊥
+pub not-wheel : (m : Method) → byMethod m true false false false ≡ false → m ≡ Method.Wheel → ⊥
 not-wheel m e is = let z : _≡_ {A = ℕ} 0 1 = cc in omega arith
 
--- under P and L no code is looked at
+-- under P, L and R no code is looked at
 pub codes-unseen : (t : Terms) (codes codes′ accounts shorts : List ℕ) (room : ℕ) → (t .method ≡ Method.Wheel → ⊥)
     → verdict (record { terms = t; codes = codes; accounts = accounts; shorts = shorts }) room ≡ verdict (record { terms = t; codes = codes′; accounts = accounts; shorts = shorts }) room
 unfolding verdict rows
@@ -61,6 +61,7 @@ codes-unseen t codes codes′ accounts shorts room other = by-cases (t .method) 
     by-cases Method.Wheel e = absurd (other e)
     by-cases Method.ProRata e = rw e refl
     by-cases Method.Lottery e = rw e refl
+    by-cases Method.RemainderDraw e = rw e refl
 
 -- the draw is judged where nothing is decided before it
 draw-judged : (t : Terms) (T n : ℕ) → undrawn t T n ≡ false → NoneApplies (thenDrawRows t T n) → NoneApplies (drawRows t T)

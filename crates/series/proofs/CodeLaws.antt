@@ -135,6 +135,7 @@ unfolding accountRefused
 not-refused Method.Wheel b a earlier h lt = let some : a ≡ 0 → ⊥ = λ e. omega arith in rw (ne-eqb a 0 some) (none-stands b a earlier h lt)
 not-refused Method.ProRata b a earlier h lt = refl
 not-refused Method.Lottery b a earlier h lt = refl
+not-refused Method.RemainderDraw b a earlier h lt = refl
 
 positions-alike : (m m′ : Method) (earlier : List ℕ) (b sum : ℕ) (accounts hs : List ℕ) (T : ℕ) → AtMost b earlier → first (positionRows m earlier b sum accounts accounts hs) T ≡ first (positionRows m′ earlier b sum accounts accounts hs) T
 unfolding positionRows first AtMost

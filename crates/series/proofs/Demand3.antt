@@ -11,11 +11,13 @@ use lib.ListN.{length, getD, drop}
 use lib.Seq.{take-at}
 use Rattle.series.specs.Results.{Result, refused, value, _>>=_, after}
 use Rattle.series.specs.Outputs.{onto}
+use Rattle.series.specs.Sums.{sumBelow}
 use Rattle.series.specs.Places.{total, run, marked, OnWheel, overPlaces}
-use Rattle.series.specs.Series.{Series, method, exercised, draw, held, byMethod}
+use Rattle.series.specs.Series.{Series, method, exercised, draw, held, redrawn, byMethod}
 use Rattle.series.specs.Wheel.{ONE, blocks, wheelMarks, wheel}
 use Rattle.series.specs.ProRata.{proRata}
 use Rattle.series.specs.Lottery.{startingPlace, lottery, unstarted, lotteryAmounts, startUsed}
+use Rattle.series.specs.RemainderDraw.{remainderPlace}
 use Rattle.series.specs.Refusals.{verdict, Accepted}
 use Rattle.series.specs.Answers.{Allocation}
 use Rattle.series.specs.Call.{INCREMENT, assigned, further, answer, output}
@@ -23,10 +25,11 @@ use Rattle.series.specs.Fair.{Near, Fair, FairOutput}
 use Rattle.series.specs.declared.Method.{Method}
 use Rattle.series.proofs.AcceptedLaws.{Facts, accepted-facts, verdict-accepted}
 use Rattle.series.proofs.CallLaws.{draw-passes, wheel-judged, lottery-judged, wheel-draw, lottery-draw, starting-on}
-use Rattle.series.proofs.SumLaws.{length-listed}
+use Rattle.series.proofs.SumLaws.{sum-cong, length-listed}
 use Rattle.series.proofs.ProRataLaws.{pro-rata-sum, pro-rata-most, pro-rata-share}
 use Rattle.series.proofs.WheelLaws.{length-wheel, wheel-whole, wheel-sum, wheel-most, wheel-share, wheel-once}
 use Rattle.series.proofs.LotteryLaws.{length-lottery-amounts, lottery-amounts, unstarted-any, lottery-sum, lottery-most, lottery-share, lottery-once}
+use Rattle.series.proofs.RemainderLaws.{remainder-on, remainder-of}
 
 module _ (s : Series) (room : ℕ) (ok : Accepted s room) where
   facts : Facts s
@@ -55,19 +58,19 @@ module _ (s : Series) (room : ℕ) (ok : Accepted s room) where
   pub wheel-marks-once : exercised s < held s → (p c : ℕ) → OnWheel (held s) p → c < held s → marked c (suc c) (wheelMarks INCREMENT (held s) (exercised s) p) ≤ 1
   wheel-marks-once less = wheel-once INCREMENT (held s) (exercised s) (omega arith) (facts .exercised-some) less few-blocks
 
-  -- L: from every place, drawn or not, the amounts add up to S.
+  -- L and R: from every place, drawn or not, the amounts add up to S.
   pub lottery-adds-up : (p : ℕ) → OnWheel (held s) p → total (lottery (s .shorts) (exercised s) p) ≡ exercised s
   lottery-adds-up = lottery-sum (s .shorts) (exercised s)
 
-  -- L: from every place no position gets more than its shorts.
+  -- L and R: from every place no position gets more than its shorts.
   pub lottery-at-most : (p : ℕ) → OnWheel (held s) p → (i : ℕ) → i < length (s .shorts) → getD (lottery (s .shorts) (exercised s) p) i 0 ≤ getD (s .shorts) i 0
   lottery-at-most p = lottery-most (s .shorts) (exercised s) p (facts .exercised-most)
 
-  -- L: summed over the places 1 to T, a position's amounts are its shorts times S.
+  -- L and R: summed over the places 1 to T, a position's amounts are its shorts times S.
   pub lottery-shares : (i : ℕ) → i < length (s .shorts) → overPlaces (held s) (λ p. getD (lottery (s .shorts) (exercised s) p) i 0) ≡ getD (s .shorts) i 0 * exercised s
   lottery-shares = lottery-share (s .shorts) (exercised s)
 
-  -- L: no contract c + 1 is marked twice.
+  -- L and R: no contract c + 1 is marked twice.
   pub lottery-marks-once : (p c : ℕ) → OnWheel (held s) p → c < held s → marked c (suc c) (run (held s) (exercised s) p) ≤ 1
   lottery-marks-once p c = lottery-once (held s) (exercised s) p c (facts .exercised-most)
 
@@ -89,10 +92,11 @@ pub length-assigned : (s : Series) → length (assigned s) ≡ length (s .shorts
 unfolding assigned proRata
 length-assigned s = by-cases (method s)
   where
-    by-cases : (m : Method) → length (byMethod m (wheel INCREMENT (s .shorts) (exercised s) (draw s)) (proRata (s .shorts) (exercised s) (draw s)) (lotteryAmounts (s .shorts) (exercised s) (startingPlace (held s) (draw s)))) ≡ length (s .shorts)
+    by-cases : (m : Method) → length (byMethod m (wheel INCREMENT (s .shorts) (exercised s) (draw s)) (proRata (s .shorts) (exercised s) (draw s)) (lotteryAmounts (s .shorts) (exercised s) (startingPlace (held s) (draw s))) (lotteryAmounts (s .shorts) (exercised s) (remainderPlace (held s) (draw s)))) ≡ length (s .shorts)
     by-cases Method.Wheel = length-wheel INCREMENT (s .shorts) (exercised s) (draw s)
     by-cases Method.ProRata = length-listed _ (length (s .shorts))
     by-cases Method.Lottery = length-lottery-amounts (s .shorts) (exercised s) (startingPlace (held s) (draw s))
+    by-cases Method.RemainderDraw = length-lottery-amounts (s .shorts) (exercised s) (remainderPlace (held s) (draw s))
 
 -- the amounts vs are those from a place on the wheel
 pub record FromPlace (T : ℕ) (from : ℕ → List ℕ) (vs : List ℕ) : Type 0 where
@@ -115,33 +119,50 @@ module _ (s : Series) (room T : ℕ) (v : verdict s room ≡ value T) where
         | no part ↦ record { place = draw s; on = wheel-draw (s .terms) (held s) e (wheel-judged (s .terms) (held s) (length (s .shorts)) e part (draw-passes s room T v)); same = refl }
       ]
 
-  drawn-place : method s ≡ Method.Lottery → unstarted (held s) (length (s .shorts)) (exercised s) ≡ false → OnWheel (held s) (startingPlace (held s) (draw s))
-  drawn-place e needed =
+  -- p is a place on the wheel where a starting place is needed
+  abbrev Drawn : ℕ → Type 0
+  Drawn p = unstarted (held s) (length (s .shorts)) (exercised s) ≡ false → OnWheel (held s) p
+
+  lottery-drawn : method s ≡ Method.Lottery → Drawn (startingPlace (held s) (draw s))
+  lottery-drawn e needed =
       starting-on (held s) (draw s) (some-total s room ok) (lottery-draw (s .terms) (held s) e (lottery-judged (s .terms) (held s) (length (s .shorts)) e needed (draw-passes s room T v)))
+
+  remainder-drawn : Drawn (remainderPlace (held s) (draw s))
+  remainder-drawn needed = remainder-on (held s) (draw s) (some-total s room ok)
+
+  -- so is one that starts at such a place
+  run-from : (p : ℕ) → Drawn p → FromPlace (held s) (lottery (s .shorts) (exercised s)) (lotteryAmounts (s .shorts) (exercised s) p)
+  run-from p drawn = by-cases (unstarted (held s) (length (s .shorts)) (exercised s)) refl
+    where
+      by-cases : (u : Bool) → unstarted (held s) (length (s .shorts)) (exercised s) ≡ u → FromPlace (held s) (lottery (s .shorts) (exercised s)) (lotteryAmounts (s .shorts) (exercised s) p)
+      by-cases true u = record { place = 1; on = first-place; same = unstarted-any (s .shorts) (exercised s) u p 1 ∙ lottery-amounts (s .shorts) (exercised s) 1 first-place }
+      by-cases false u = record { place = p; on = drawn u; same = lottery-amounts (s .shorts) (exercised s) p (drawn u) }
 
   -- L: so is one by the starting number
   pub lottery-from : method s ≡ Method.Lottery → FromPlace (held s) (lottery (s .shorts) (exercised s)) (lotteryAmounts (s .shorts) (exercised s) (startingPlace (held s) (draw s)))
-  lottery-from e = by-cases (unstarted (held s) (length (s .shorts)) (exercised s)) refl
+  lottery-from e = run-from (startingPlace (held s) (draw s)) (lottery-drawn e)
+
+  -- R: so is one by the remainder draw
+  pub remainder-from : FromPlace (held s) (lottery (s .shorts) (exercised s)) (lotteryAmounts (s .shorts) (exercised s) (remainderPlace (held s) (draw s)))
+  remainder-from = run-from (remainderPlace (held s) (draw s)) remainder-drawn
+
+  used-on-wheel : (q : ℕ) → Drawn q → (p : ℕ) → startUsed (s .shorts) (exercised s) q ≡ some p → OnWheel (held s) p
+  unfolding startUsed
+  used-on-wheel q drawn p h = by-cases (unstarted (held s) (length (s .shorts)) (exercised s)) refl h
     where
-      p : ℕ
-      p = startingPlace (held s) (draw s)
-
-      by-cases : (u : Bool) → unstarted (held s) (length (s .shorts)) (exercised s) ≡ u → FromPlace (held s) (lottery (s .shorts) (exercised s)) (lotteryAmounts (s .shorts) (exercised s) p)
-      by-cases true u = record { place = 1; on = first-place; same = unstarted-any (s .shorts) (exercised s) u p 1 ∙ lottery-amounts (s .shorts) (exercised s) 1 first-place }
-      by-cases false u = record { place = p; on = drawn-place e u; same = lottery-amounts (s .shorts) (exercised s) p (drawn-place e u) }
-
-  started : method s ≡ Method.Lottery → further s ≡ startUsed (s .shorts) (exercised s) (startingPlace (held s) (draw s))
-  unfolding further
-  started e = rw e refl
+      by-cases : (u : Bool) → unstarted (held s) (length (s .shorts)) (exercised s) ≡ u → cond u none (some q) ≡ some p → OnWheel (held s) p
+      by-cases true u k = let z : _≡_ {A = ℕ} 0 1 = cc in absurd (omega arith)
+      by-cases false u k = let same : q ≡ p = cc in rw (← same) (drawn u)
 
   -- L: a starting place that is handed back is a place on the wheel
   pub start-on-wheel : method s ≡ Method.Lottery → (p : ℕ) → further s ≡ some p → OnWheel (held s) p
-  unfolding startUsed
-  start-on-wheel e p h = by-cases (unstarted (held s) (length (s .shorts)) (exercised s)) refl (sym (started e) ∙ h)
-    where
-      by-cases : (u : Bool) → unstarted (held s) (length (s .shorts)) (exercised s) ≡ u → cond u none (some (startingPlace (held s) (draw s))) ≡ some p → OnWheel (held s) p
-      by-cases true u k = let z : _≡_ {A = ℕ} 0 1 = cc in absurd (omega arith)
-      by-cases false u k = let same : startingPlace (held s) (draw s) ≡ p = cc in rw (← same) (drawn-place e u)
+  unfolding further
+  start-on-wheel e p h = used-on-wheel (startingPlace (held s) (draw s)) (lottery-drawn e) p (rw e at h)
+
+  -- R: so it is
+  pub remainder-on-wheel : method s ≡ Method.RemainderDraw → (p : ℕ) → further s ≡ some p → OnWheel (held s) p
+  unfolding further
+  remainder-on-wheel e p h = used-on-wheel (remainderPlace (held s) (draw s)) remainder-drawn p (rw e at h)
 
   -- what amounts from a place need to be fair, the method not being P
   fair-from : (from : ℕ → List ℕ) (vs : List ℕ) → FromPlace (held s) from vs → (method s ≡ Method.ProRata → ⊥)
@@ -159,7 +180,7 @@ module _ (s : Series) (room T : ℕ) (v : verdict s room ≡ value T) where
   unfolding assigned
   assigned-fair = by-cases (method s) refl
     where
-      by-cases : (m : Method) → method s ≡ m → Fair s (byMethod m (wheel INCREMENT (s .shorts) (exercised s) (draw s)) (proRata (s .shorts) (exercised s) (draw s)) (lotteryAmounts (s .shorts) (exercised s) (startingPlace (held s) (draw s))))
+      by-cases : (m : Method) → method s ≡ m → Fair s (byMethod m (wheel INCREMENT (s .shorts) (exercised s) (draw s)) (proRata (s .shorts) (exercised s) (draw s)) (lotteryAmounts (s .shorts) (exercised s) (startingPlace (held s) (draw s))) (lotteryAmounts (s .shorts) (exercised s) (remainderPlace (held s) (draw s))))
       by-cases Method.Wheel e = fair-from (wheel INCREMENT (s .shorts) (exercised s)) _ (wheel-from e) (λ p. let z : _≡_ {A = ℕ} 0 1 = cc in omega arith) (wheel-adds-up s room ok) (wheel-at-most s room ok)
       by-cases Method.ProRata e =
           record {
@@ -168,6 +189,17 @@ module _ (s : Series) (room T : ℕ) (v : verdict s room ≡ value T) where
             near = λ _. pro-rata-near s room ok (draw s);
           }
       by-cases Method.Lottery e = fair-from (lottery (s .shorts) (exercised s)) _ (lottery-from e) (λ p. let z : _≡_ {A = ℕ} 0 1 = cc in omega arith) (lottery-adds-up s room ok) (lottery-at-most s room ok)
+      by-cases Method.RemainderDraw e = fair-from (lottery (s .shorts) (exercised s)) _ remainder-from (λ p. let z : _≡_ {A = ℕ} 0 1 = cc in omega arith) (lottery-adds-up s room ok) (lottery-at-most s room ok)
+
+-- R: summed over the draws 0 to T - 1, the amounts of the calls are a position's shorts times S.
+pub remainder-shares : (s : Series) (room : ℕ) → Accepted s room → method s ≡ Method.RemainderDraw → (i : ℕ) → i < length (s .shorts) → sumBelow (λ d. getD (assigned (redrawn d s)) i 0) (held s) ≡ getD (s .shorts) i 0 * exercised s
+unfolding overPlaces assigned redrawn
+remainder-shares s room ok e i h =
+    sum-cong (λ d. getD (assigned (redrawn d s)) i 0) (λ d. getD (lottery (s .shorts) (exercised s) (suc d)) i 0) (held s) (λ d l. ap (λ vs. getD vs i 0) (each d l)) ∙ lottery-shares s room ok i h
+  where
+    -- the draw d leads to the place d + 1
+    each : (d : ℕ) → d < held s → assigned (redrawn d s) ≡ lottery (s .shorts) (exercised s) (suc d)
+    each d l = rw (e, remainder-of (held s) d l) (lottery-amounts (s .shorts) (exercised s) (suc d) (record { low = omega arith; high = l }))
 
 -- a call that is not turned away
 allocation-fair : (s : Series) (old : List ℕ) (T : ℕ) → verdict s (length old) ≡ value T → FairOutput (answer s (length old)) s (output s old)

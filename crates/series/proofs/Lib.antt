@@ -6,6 +6,8 @@ pub mod BeforeDraw
 pub mod OnePosition
 pub mod CodeLaws
 pub mod Coded
+pub mod Exhibit
+pub mod RangeLaws
 pub mod CutOffLaws
 pub mod DrawUnused
 pub mod ResultLaws
@@ -15,6 +17,7 @@ pub mod ListLaws
 pub mod PlaceLaws
 pub mod WheelLaws
 pub mod LotteryLaws
+pub mod RemainderLaws
 pub mod ProRataLaws
 pub mod AcceptedLaws
 pub mod CallLaws

@@ -18,7 +18,7 @@ pub record OnePosition (hs : List ℕ) (c : ℕ) : Type 0 where
   pub only : (j : ℕ) → Belongs hs j c → j ≡ position
 
 module _ (hs : List ℕ) (c : ℕ) where
-  above-before : (i : ℕ) → Belongs hs i c → before hs i < c
+  pub above-before : (i : ℕ) → Belongs hs i c → before hs i < c
   unfolding bit
   above-before i b =
       elim (decLt (before hs i) c) [
@@ -26,7 +26,7 @@ module _ (hs : List ℕ) (c : ℕ) where
         | no g ↦ absurd (omega (arith, ap bit (b .in-range), within-low (before hs i) (last hs i) c (omega arith)))
       ]
 
-  up-to-last : (i : ℕ) → Belongs hs i c → c ≤ last hs i
+  pub up-to-last : (i : ℕ) → Belongs hs i c → c ≤ last hs i
   unfolding bit
   up-to-last i b =
       elim (decLe c (last hs i)) [

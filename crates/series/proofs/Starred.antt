@@ -12,11 +12,12 @@ use Rattle.series.specs.Series.{Series, held}
 use Rattle.series.specs.Wheel.{blocks, interval, marks, wheelMarks, wheel, blocksUsed}
 use Rattle.series.specs.ProRata.{percentage, assignmentAmount, wholePart, decimalPart, roundOne, decimals, remainder, larger, equal, turn, rank, roundTwo, proRata}
 use Rattle.series.specs.Lottery.{startingPlace, lottery, unstarted, lotteryAmounts, startUsed}
+use Rattle.series.specs.RemainderDraw.{remainderPlace}
 use Rattle.series.specs.Refusals.{first, lengthRows, roomRows, standsIn, accountRefused, positionRows, exercisedRows, outside, undrawn, drawRows, thenDrawRows, listRows, rows, verdict, leftAside, aside, Accepted}
 use Rattle.series.specs.Answers.{Allocation}
 use Rattle.series.specs.Call.{assigned, further, answer, output}
 use Rattle.series.specs.declared.Method.{Method}
-use Rattle.series.specs.declared.Method.the-variants.{Wheel, ProRata, Lottery}
+use Rattle.series.specs.declared.Method.the-variants.{Wheel, ProRata, Lottery, RemainderDraw}
 use Rattle.series.proofs.RowLaws.{value-passed}
 
 -- a series with codes and accounts 1, 2, ..
@@ -36,7 +37,7 @@ pub record Called : Type 0 where
 
 -- the line `unfolding` names every definition that the call's answer and output compute with
 unfoldable pub calledOn : Series → Called
-unfolding series onto sumBelow bit countBelow listed total next steps run within marked before last amounts blocks interval marks wheelMarks wheel blocksUsed percentage assignmentAmount wholePart decimalPart roundOne decimals remainder larger equal turn rank roundTwo proRata startingPlace lottery unstarted lotteryAmounts startUsed first lengthRows roomRows standsIn accountRefused positionRows exercisedRows outside undrawn drawRows thenDrawRows listRows rows verdict assigned further answer output
+unfolding series onto sumBelow bit countBelow listed total next steps run within marked before last amounts blocks interval marks wheelMarks wheel blocksUsed percentage assignmentAmount wholePart decimalPart roundOne decimals remainder larger equal turn rank roundTwo proRata startingPlace lottery unstarted lotteryAmounts startUsed remainderPlace first lengthRows roomRows standsIn accountRefused positionRows exercisedRows outside undrawn drawRows thenDrawRows listRows rows verdict assigned further answer output
 calledOn s =
     let old : List ℕ = replicate (suc (length (s .shorts))) 7 in
     record { answered = answer s (length old); written = output s old }
@@ -45,9 +46,9 @@ calledOn s =
 abbrev pub allocated : Method → ℕ → ℕ → List ℕ → Called
 allocated m T f vs = record { answered = value (record { method = m; total = T; further = some f }); written = vs ++ (7 ∷ []) }
 
--- an allocation by L with T and the amounts, and no starting place
-abbrev pub undrawnBy : ℕ → List ℕ → Called
-undrawnBy T vs = record { answered = value (record { method = Lottery; total = T; further = none }); written = vs ++ (7 ∷ []) }
+-- an allocation by L or R with T and the amounts, and no starting place
+abbrev pub undrawnBy : Method → ℕ → List ℕ → Called
+undrawnBy m T vs = record { answered = value (record { method = m; total = T; further = none }); written = vs ++ (7 ∷ []) }
 
 -- a refusal with its number, the whole output of a list of n positions kept
 abbrev pub turnedAway : ℕ → ℕ → Called
@@ -116,7 +117,7 @@ boundaries =
 pub boundaries-known : map calledOn boundaries ≡
     allocated Lottery 3 1 (1 ∷ 0 ∷ 0 ∷ []) ∷
     allocated Lottery 3 2 (0 ∷ 1 ∷ 0 ∷ []) ∷
-    undrawnBy 36 M-shorts ∷
+    undrawnBy Lottery 36 M-shorts ∷
     turnedAway 5 9 ∷
     allocated ProRata 36 0 M-shorts ∷
     turnedAway 5 9 ∷
@@ -133,10 +134,10 @@ boundaries-known = refl
 
 -- M under each method, with a draw of 0, which W and L refuse
 pub drawn-zero : List Series
-drawn-zero = series Wheel M-shorts 13 0 ∷ series ProRata M-shorts 13 0 ∷ series Lottery M-shorts 13 0 ∷ []
+drawn-zero = series Wheel M-shorts 13 0 ∷ series ProRata M-shorts 13 0 ∷ series Lottery M-shorts 13 0 ∷ series RemainderDraw M-shorts 13 0 ∷ []
 
 -- what the rows that are left come to where the draw is 0 and there is no room: T, for each of them
-pub undrawn-left : map (λ s. first (aside (rows s 0)) (held s)) drawn-zero ≡ value 36 ∷ value 36 ∷ value 36 ∷ []
+pub undrawn-left : map (λ s. first (aside (rows s 0)) (held s)) drawn-zero ≡ value 36 ∷ value 36 ∷ value 36 ∷ value 36 ∷ []
 unfolding drawn-zero series listed total unstarted first aside leftAside rows listRows lengthRows roomRows standsIn accountRefused positionRows exercisedRows outside undrawn drawRows thenDrawRows
 undrawn-left = refl
 

@@ -29,7 +29,7 @@ numberOf ClosingPurchasesAboveShort = 17
 numberOf ExercisedAboveLimit = 18
 numberOf AccountRepeated = 19
 
--- what an allocation hands back: T and one further number, which its method gives a meaning; none for L without a starting place
+-- what an allocation hands back: T and one further number, which its method gives a meaning; none for L and R without a starting place
 pub record Allocation : Type 0 where
   pub method : Method
   pub total : ℕ
@@ -40,10 +40,12 @@ abbrev pub handedBack : Option ℕ → ℕ
 handedBack none = 0
 handedBack (some n) = n
 
--- what each answer of the allocating call hands back: T1 for W, the contracts of round two for P, the starting place for L, or none
+-- what each answer of the allocating call hands back: T1 for W, the contracts of round two for P, the starting place for L and R, or none
 abbrev pub answerOf : Answer → Result Allocation
 answerOf (Answer.Wheel T T1) = value (record { method = Method.Wheel; total = T .0; further = some T1 })
 answerOf (Answer.ProRata T left) = value (record { method = Method.ProRata; total = T .0; further = some (left .0) })
 answerOf (Answer.Lottery T p) = value (record { method = Method.Lottery; total = T .0; further = some (p .0) })
 answerOf (Answer.LotteryUndrawn T) = value (record { method = Method.Lottery; total = T .0; further = none })
+answerOf (Answer.RemainderDraw T p) = value (record { method = Method.RemainderDraw; total = T .0; further = some (p .0) })
+answerOf (Answer.RemainderUndrawn T) = value (record { method = Method.RemainderDraw; total = T .0; further = none })
 answerOf (Answer.Refused r) = refused (numberOf r)

@@ -9,6 +9,7 @@ use Rattle.series.specs.Series.{Series, method, exercised, draw, held, b
 use Rattle.series.specs.Wheel.{wheel, blocksUsed}
 use Rattle.series.specs.ProRata.{proRata, remainder}
 use Rattle.series.specs.Lottery.{startingPlace, lotteryAmounts, startUsed}
+use Rattle.series.specs.RemainderDraw.{remainderPlace}
 use Rattle.series.specs.Refusals.{verdict}
 use Rattle.series.specs.Answers.{Allocation}
 
@@ -16,21 +17,23 @@ use Rattle.series.specs.Answers.{Allocation}
 abbrev pub INCREMENT : ℕ
 INCREMENT = 25
 
--- the amounts that the method assigns: by the wheel, pro rata, by the starting number
+-- the amounts that the method assigns: by the wheel, pro rata, by the starting number, by the remainder draw, which goes on as the starting number does
 unfoldable pub assigned : Series → List ℕ
 assigned s =
     byMethod (method s)
     (wheel INCREMENT (s .shorts) (exercised s) (draw s))
     (proRata (s .shorts) (exercised s) (draw s))
     (lotteryAmounts (s .shorts) (exercised s) (startingPlace (held s) (draw s)))
+    (lotteryAmounts (s .shorts) (exercised s) (remainderPlace (held s) (draw s)))
 
--- the one further number: T1 for W (0 if S equals T), the contracts of round two for P, the starting place for L, where one is needed
+-- the one further number: T1 for W (0 if S equals T), the contracts of round two for P, the starting place for L and R, where one is needed
 unfoldable pub further : Series → Option ℕ
 further s =
     byMethod (method s)
     (some (blocksUsed INCREMENT (held s) (exercised s)))
     (some (remainder (s .shorts) (exercised s)))
     (startUsed (s .shorts) (exercised s) (startingPlace (held s) (draw s)))
+    (startUsed (s .shorts) (exercised s) (remainderPlace (held s) (draw s)))
 
 -- the answer of the call; room is the length of the output
 unfoldable pub answer : Series → ℕ → Result Allocation

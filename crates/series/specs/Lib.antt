@@ -1,4 +1,4 @@
--- Document 01 as definitions, in its order: words and places, a series, the wheel, pro rata (with document 02's cut-off), the starting number, the refusals, the call.
+-- Document 01 as definitions, in its order: words and places, a series, the wheel, pro rata (with document 02's cut-off), the starting number, document 02's remainder draw, the refusals, the call.
 pub mod Ascii
 pub mod Results
 pub mod Outputs
@@ -9,6 +9,7 @@ pub mod Wheel
 pub mod ProRata
 pub mod CutOff
 pub mod Lottery
+pub mod RemainderDraw
 pub mod Refusals
 pub mod Answers
 pub mod Call

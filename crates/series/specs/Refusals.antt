@@ -49,9 +49,9 @@ unfoldable pub standsIn : ℕ → List ℕ → Bool
 standsIn n [] = false
 standsIn n (m ∷ ms) = eqb n m || standsIn n ms
 
--- under W: the account is 0, or stands earlier in the list. P and L judge its order alone
+-- under W: the account is 0, or stands earlier in the list. P, L and R judge its order alone
 unfoldable pub accountRefused : Method → List ℕ → ℕ → Bool
-accountRefused m earlier a = byMethod m (eqb a 0 || standsIn a earlier) false false
+accountRefused m earlier a = byMethod m (eqb a 0 || standsIn a earlier) false false false
 
 -- list, each position in turn, by its number in the order, its account and its shorts:
 -- after the accounts earlier in the list, the number before it (0 for the first) and the sum of the shorts before it
@@ -74,13 +74,13 @@ exercisedRows T S = eqb S 0 ⟶ 8 ∣ ltb T S ⟶ 9 ∣ []
 unfoldable pub outside : ℕ → ℕ → Bool
 outside n draw = eqb draw 0 || ltb n draw
 
--- decided before the draw: S equals T, under W and L; then, under L only, one position. n is the number of positions
+-- decided before the draw: S equals T, under W, L and R; then, under L and R only, one position. n is the number of positions
 unfoldable pub undrawn : Terms → ℕ → ℕ → Bool
-undrawn t T n = byMethod (t .method) (eqb (t .exercised .0) T) false (unstarted T n (t .exercised .0))
+undrawn t T n = byMethod (t .method) (eqb (t .exercised .0) T) false (unstarted T n (t .exercised .0)) (unstarted T n (t .exercised .0))
 
--- draw: 1 to T under W, any under P, 1 to 10,000 under L
+-- draw: 1 to T under W, any under P, 1 to 10,000 under L, any under R
 unfoldable pub drawRows : Terms → ℕ → List Row
-drawRows t T = byMethod (t .method) (outside T (t .draw) ⟶ 10 ∣ []) [] (outside 10000 (t .draw) ⟶ 10 ∣ [])
+drawRows t T = byMethod (t .method) (outside T (t .draw) ⟶ 10 ∣ []) [] (outside 10000 (t .draw) ⟶ 10 ∣ []) []
 
 -- then the draw, where nothing is decided before it
 unfoldable pub thenDrawRows : Terms → ℕ → ℕ → List Row

@@ -44,15 +44,16 @@ redrawn d s =
       shorts = s .shorts;
     }
 
--- what is given for each method: W, P, L
-abbrev pub byMethod : {A : Type 0} → Method → A → A → A → A
-byMethod Method.Wheel w p l = w
-byMethod Method.ProRata w p l = p
-byMethod Method.Lottery w p l = l
+-- what is given for each method: W, P, L, R
+abbrev pub byMethod : {A : Type 0} → Method → A → A → A → A → A
+byMethod Method.Wheel w p l r = w
+byMethod Method.ProRata w p l r = p
+byMethod Method.Lottery w p l r = l
+byMethod Method.RemainderDraw w p l r = r
 
--- what the list rises by: the codes under W, the accounts under P and L
+-- what the list rises by: the codes under W, the accounts under P, L and R
 abbrev pub orderedBy : Method → List ℕ → List ℕ → List ℕ
-orderedBy m codes accounts = byMethod m codes accounts accounts
+orderedBy m codes accounts = byMethod m codes accounts accounts accounts
 
 -- what a series rises by
 abbrev pub order : Series → List ℕ

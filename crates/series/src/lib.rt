@@ -8,11 +8,12 @@ pub struct Place(pub u32);
 // A number of contracts, as T, S, a position's shorts or an amount: counts from 0.
 pub struct Contracts(pub u32);
 
-// The three methods: the wheel (W), pro rata (P), the starting number (L).
+// The methods: the wheel (W), pro rata (P), the starting number (L), the remainder draw (R).
 pub enum Method {
     Wheel,
     ProRata,
     Lottery,
+    RemainderDraw,
 }
 
 // What a call is given of a series beside its lists: the method, the contracts exercised (S) and the draw.
@@ -64,6 +65,15 @@ pub enum Answer {
     },
     // Without a starting place: S equals T, or the list has one position.
     LotteryUndrawn {
+        total: Contracts,
+    },
+    // The starting place.
+    RemainderDraw {
+        total: Contracts,
+        start: Place,
+    },
+    // Without a starting place, as LotteryUndrawn.
+    RemainderUndrawn {
         total: Contracts,
     },
     Refused(Refusal),

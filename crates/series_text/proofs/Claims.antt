@@ -14,14 +14,14 @@ use Rattle.series_text.specs.Numbers.{digit, digits, spelled, amountFrom
 use Rattle.series_text.specs.Fields.{Text, Read, ends, field, past, fieldBy, endBefore, readFields, writeNumber}
 use Rattle.series_text.specs.Rows.{numbers, readRow, readRows, writeRow, writeRows, rowsOf, column}
 use Rattle.series_text.specs.Names.{line1, line3, namesLine, headingOf, afterLine, headingOr, readNames}
-use Rattle.series_text.specs.Letters.{letter, methodBy, methodOf}
+use Rattle.series_text.specs.Letters.{letter, methodAmong, methodBy, methodOf}
 use Rattle.series_text.specs.Text.{readTerms, readHead, readPositions, readText, writeTerms, writeHead, textWith, sameNumbers, writesCodes, writeText}
 use Rattle.series_text.specs.Calls.{readInto, evenly, lineCount, headAndLines, writeInto, lengthOf}
 use Rattle.series_text.specs.declared.names.Heading.{Heading}
 
 -- the line `unfolding` names every definition that reading computes with
 reading : Text → Result Series
-unfolding digit digits spelled amountFrom amount numeral number ends field past fieldBy endBefore readFields numbers readRow readRows column namesLine afterLine headingOr readNames letter methodBy methodOf readTerms readHead readPositions readText ascii
+unfolding digit digits spelled amountFrom amount numeral number ends field past fieldBy endBefore readFields numbers readRow readRows column namesLine afterLine headingOr readNames letter methodAmong methodBy methodOf readTerms readHead readPositions readText ascii
 reading s = readText s
 
 -- case M: each code is its account

@@ -62,6 +62,22 @@ pub digits-few : (n : ℕ) → length (decimal n) ≤ 10
 unfolding decimal
 digits-few n = few-in 10 n
 
+within-in : (k j n : ℕ) → n < 10 ^ suc j → length (decimalIn k n) ≤ suc j
+unfolding decimalIn
+within-in zero j n high = omega arith
+within-in (suc k) zero n high = rw (decimal-small k n high) (omega arith)
+within-in (suc k) (suc j) n high =
+    let e : 10 ^ suc (suc j) ≡ 10 ^ suc j * 10 = pow-suc 10 (suc j) in
+    elim (decLt n 10) [
+      | yes small ↦ rw (decimal-small k n small) (omega arith)
+      | no large ↦ let le : 10 ≤ n = omega arith in rw (decimal-large k n le, length-snoc) (omega (arith, within-in k j (n / 10) (omega arith)))
+    ]
+
+-- a number below 10 ^ (j + 1) has at most j + 1 digits
+pub digits-within : (j n : ℕ) → n < 10 ^ suc j → length (decimal n) ≤ suc j
+unfolding decimal
+digits-within j n high = within-in 10 j n high
+
 pub digits-some : (n : ℕ) → 1 ≤ length (decimal n)
 unfolding decimal decimalIn
 digits-some n = go (ltb n 10)

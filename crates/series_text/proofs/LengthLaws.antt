@@ -30,6 +30,11 @@ pub length-number : (n c : ℕ) → length (writeNumber n c) ≡ length (decimal
 unfolding writeNumber
 length-number n c = length-append (decimal n) (c ∷ [])
 
+-- a line is its first number and the line of the others
+pub length-row : (n : ℕ) (ns : List ℕ) → length (writeRow (n ∷ ns)) ≡ length (decimal n) + 1 + length (writeRow ns)
+unfolding writeRow
+length-row n ns = length-append (writeNumber n (endBefore (length ns))) (writeRow ns) ∙ ap (_+ length (writeRow ns)) (length-number n (endBefore (length ns)))
+
 -- ---- a row, from number i on
 
 -- number i with the byte that ends its field
@@ -87,11 +92,13 @@ length-lines f (suc n) = ap (λ (k : ℕ). length (linesOf f k)) (sym (add-one n
 pub lines-within : (f : ℕ → List ℕ) (m n : ℕ) → m ≤ n → length (linesOf f m) ≤ length (linesOf f n)
 lines-within f m n h = omega (arith, length-lines f m, length-lines f n, sum-first (λ i. length (writeRow (f i))) m n h)
 
+-- lines of at most b bytes each
+pub lines-most : (f : ℕ → List ℕ) (b n : ℕ) → ((i : ℕ) → i < n → length (writeRow (f i)) ≤ b) → length (linesOf f n) ≤ b * n
+lines-most f b n each = omega (arith, length-lines f n, sum-mono (λ i. length (writeRow (f i))) (λ _. b) n each, sum-const b n)
+
 -- rows of at most k numbers have lines of at most 11 * k bytes
 pub lines-room : (f : ℕ → List ℕ) (k n : ℕ) → ((i : ℕ) → length (f i) ≤ k) → length (linesOf f n) ≤ 11 * k * n
-lines-room f k n h =
-    let each : (i : ℕ) → i < n → length (writeRow (f i)) ≤ 11 * k = λ i _. omega (arith, row-few (f i), h i) in
-    omega (arith, length-lines f n, sum-mono (λ i. length (writeRow (f i))) (λ _. 11 * k) n each, sum-const (11 * k) n)
+lines-room f k n h = lines-most f (11 * k) n (λ i _. omega (arith, row-few (f i), h i))
 
 -- the lines of k columns have at most 11 * k bytes each
 pub rows-room : (cs : List (List ℕ)) → length (writeRows (rowsOf cs)) ≤ 11 * length cs * lineCount cs

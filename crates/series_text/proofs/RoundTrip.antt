@@ -19,7 +19,7 @@ use Rattle.series_text.specs.Numbers.{LARGEST, decimal}
 use Rattle.series_text.specs.Fields.{Text, COMMA, ends, fieldBy}
 use Rattle.series_text.specs.Rows.{rowsOf}
 use Rattle.series_text.specs.Names.{line3, namesLine, headingOf, coded, afterLine, headingOr, readNames}
-use Rattle.series_text.specs.Letters.{letter, methodBy, methodOf}
+use Rattle.series_text.specs.Letters.{letter, methodAmong, methodBy, methodOf}
 use Rattle.series_text.specs.Text.{MOST_BYTES, MOST_LINES, readTerms, readHead, lineWidth, seriesOf, readPositions, readText, writeTerms, writeHead, columns, textWith, sameNumbers, writesCodes, writeText}
 use Rattle.series_text.specs.Parts.{Columns, Plain}
 use Rattle.series_text.specs.Calls.{readingOf, readInto, handed, lineCount, headAndLines, writeInto, lengthOf}
@@ -58,12 +58,14 @@ letter-field m s = field-byte COMMA (letter m) (COMMA ∷ s) (no-end m) ∙ ap (
     no-end Method.Wheel = refl
     no-end Method.ProRata = refl
     no-end Method.Lottery = refl
+    no-end Method.RemainderDraw = refl
 
 letter-method : (m : Method) → methodOf (letter m ∷ []) ≡ value m
-unfolding methodOf methodBy letter
+unfolding methodOf methodBy methodAmong letter
 letter-method Method.Wheel = refl
 letter-method Method.ProRata = refl
 letter-method Method.Lottery = refl
+letter-method Method.RemainderDraw = refl
 
 -- line 2 by the method m, S and the draw spelled by these fields
 unfoldable pub spelledTerms : Method → List Text → Text

@@ -19,7 +19,7 @@ use Rattle.series_text.specs.Numbers.{decimal}
 use Rattle.series_text.specs.Fields.{Text, COMMA, Read, fieldBy, endBefore, readFields, writeNumber}
 use Rattle.series_text.specs.Rows.{numbers, readRows, writeRow, writeRows, rowOf, rowsOf, column}
 use Rattle.series_text.specs.Names.{line1, line3, namesLine, headingOf, coded, afterLine, headingOr, readNames}
-use Rattle.series_text.specs.Letters.{letter, methodBy, methodOf}
+use Rattle.series_text.specs.Letters.{letter, methodAmong, methodBy, methodOf}
 use Rattle.series_text.specs.Parts.{Columns, Plain}
 use Rattle.series_text.specs.Text.{MOST_BYTES, MOST_LINES, readTerms, Head, readHead, lineWidth, seriesOf, readPositions, readText, writeTerms, writeHead, columns, textWith, writesCodes, writeText}
 use Rattle.series_text.specs.declared.names.Heading.{Heading}
@@ -56,26 +56,20 @@ names-are line (h ∷ known) s x each e = go (names-are line known s x (each .1)
 
 -- ---- line 2
 
+letter-is : (ms : List Method) (b : ℕ) (m : Method) → methodAmong ms b ≡ value m → b ≡ letter m
+unfolding methodAmong
+letter-is [] b m e = absurd (never 14 m e)
+letter-is (k ∷ ms) b m e = by-cases (eqb b (letter k)) refl (letter-is ms b m) e
+  where
+    by-cases : (t : Bool) → eqb b (letter k) ≡ t → (methodAmong ms b ≡ value m → b ≡ letter m) → cond t (value k) (methodAmong ms b) ≡ value m → b ≡ letter m
+    by-cases true same others f = eqb-true b (letter k) same ∙ ap letter (value-is f)
+    by-cases false other others f = others f
+
 method-is : (f : Text) (m : Method) → methodOf f ≡ value m → f ≡ letter m ∷ []
 unfolding methodOf methodBy
 method-is [] m e = absurd (never 14 m e)
 method-is (b ∷ c ∷ f) m e = absurd (never 14 m e)
-method-is (b ∷ []) m e = wheel (eqb b (letter Method.Wheel)) refl e
-  where
-    is : (k : Method) → eqb b (letter k) ≡ true → value k ≡ value m → b ∷ [] ≡ letter m ∷ []
-    is k same f = let x : b ≡ letter k = eqb-true b (letter k) same in let y : k ≡ m = value-is f in ap (λ (z : ℕ). z ∷ []) (x ∙ ap letter y)
-
-    lottery : (t : Bool) → eqb b (letter Method.Lottery) ≡ t → cond t (value Method.Lottery) (refused 14) ≡ value m → b ∷ [] ≡ letter m ∷ []
-    lottery true same f = is Method.Lottery same f
-    lottery false other f = absurd (never 14 m f)
-
-    prorata : (t : Bool) → eqb b (letter Method.ProRata) ≡ t → cond t (value Method.ProRata) (cond (eqb b (letter Method.Lottery)) (value Method.Lottery) (refused 14)) ≡ value m → b ∷ [] ≡ letter m ∷ []
-    prorata true same f = is Method.ProRata same f
-    prorata false other f = lottery (eqb b (letter Method.Lottery)) refl f
-
-    wheel : (t : Bool) → eqb b (letter Method.Wheel) ≡ t → cond t (value Method.Wheel) (cond (eqb b (letter Method.ProRata)) (value Method.ProRata) (cond (eqb b (letter Method.Lottery)) (value Method.Lottery) (refused 14))) ≡ value m → b ∷ [] ≡ letter m ∷ []
-    wheel true same f = is Method.Wheel same f
-    wheel false other f = prorata (eqb b (letter Method.ProRata)) refl f
+method-is (b ∷ []) m e = ap (λ (z : ℕ). z ∷ []) (letter-is _ b m e)
 
 -- the text s begins with what `top` makes of the method and of fields that spell S and the draw, and then what is left
 record Starts (top : Method → List Text → Text) (s : Text) (t : Terms) (rest : Text) : Type 0 where

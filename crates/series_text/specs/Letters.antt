@@ -10,13 +10,16 @@ use Rattle.series.specs.declared.Method.{Method}
 
 -- the letter of each method
 unfoldable pub letter : Method → ℕ
-letter m = byMethod m (code "W") (code "P") (code "L")
+letter m = byMethod m (code "W") (code "P") (code "L") (code "R")
+
+-- the method of these whose letter is b, else 14
+unfoldable pub methodAmong : List Method → ℕ → Result Method
+methodAmong [] b = refused 14
+methodAmong (m ∷ ms) b = cond (eqb b (letter m)) (value m) (methodAmong ms b)
 
 -- the method of a letter, else 14
 unfoldable pub methodBy : ℕ → Result Method
-methodBy b =
-    cond (eqb b (letter Method.Wheel)) (value Method.Wheel)
-    (cond (eqb b (letter Method.ProRata)) (value Method.ProRata) (cond (eqb b (letter Method.Lottery)) (value Method.Lottery) (refused 14)))
+methodBy b = methodAmong (Method.Wheel ∷ Method.ProRata ∷ Method.Lottery ∷ Method.RemainderDraw ∷ []) b
 
 -- the method that the field f names, else 14
 unfoldable pub methodOf : List ℕ → Result Method

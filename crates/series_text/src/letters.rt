@@ -10,7 +10,7 @@ pub enum Named {
     Unknown,
 }
 
-// The method of the letter W, P or L.
+// The method of the letter W, P, L or R.
 pub fn method_by(letter: u8) -> Named
     ensures { λ r. ⌜ namedMeans r ≡ methodBy letter ⌝ }
 {
@@ -23,6 +23,9 @@ pub fn method_by(letter: u8) -> Named
     if letter == b'L' {
         return Named::Method(Method::Lottery);
     }
+    if letter == b'R' {
+        return Named::Method(Method::RemainderDraw);
+    }
     Named::Unknown
 }
 
@@ -34,5 +37,6 @@ pub fn letter_of(method: Method) -> u8
         Method::Wheel => b'W',
         Method::ProRata => b'P',
         Method::Lottery => b'L',
+        Method::RemainderDraw => b'R',
     }
 }

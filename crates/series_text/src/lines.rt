@@ -43,7 +43,7 @@ pub enum Positions {
     Refused(Refusal),
 }
 
-// The method that the field from one index to another names: exactly W, P or L.
+// The method that the field from one index to another names: exactly W, P, L or R.
 fn read_method(text: &[u8], from: usize, to: usize) -> Named
     requires { ⌜ (from ≤ to) × (to ≤ length (now text)) ⌝ }
     ensures { λ r. ⌜ namedMeans r ≡ methodOf (slice from to (now (text .entry))) ⌝ }

@@ -12,7 +12,7 @@ use Rattle.series_text.specs.Numbers.{digit, digits, spelled, amountFrom, amoun
 use Rattle.series_text.specs.Fields.{Text, ends, field, past, fieldBy, endBefore, readFields, writeNumber}
 use Rattle.series_text.specs.Rows.{numbers, readRow, readRows, writeRow, writeRows, rowsOf, column}
 use Rattle.series_text.specs.Names.{namesLine, afterLine, headingOr, readNames}
-use Rattle.series_text.specs.Letters.{letter, methodBy, methodOf}
+use Rattle.series_text.specs.Letters.{letter, methodAmong, methodBy, methodOf}
 use Rattle.series_text.specs.Text.{readTerms, readHead, readPositions, readText, writeTerms, writeHead, textWith, sameNumbers, writesCodes, writeText}
 use Rattle.series_text.specs.Calls.{evenly, lineCount, headAndLines, writeInto, lengthOf}
 
@@ -24,7 +24,7 @@ large n code account short =
 
 -- the definitions that writing and reading compute with
 computing : Series → Text
-unfolding large digit digits spelled amountFrom amount numeral number ends field past fieldBy endBefore readFields numbers readRow readRows column namesLine afterLine headingOr readNames letter methodBy methodOf readTerms readHead readPositions readText ascii decimalIn decimal writeNumber writeRow writeRows listed rowsOf writeTerms writeHead textWith sameNumbers writesCodes writeText evenly lineCount headAndLines writeInto lengthOf
+unfolding large digit digits spelled amountFrom amount numeral number ends field past fieldBy endBefore readFields numbers readRow readRows column namesLine afterLine headingOr readNames letter methodAmong methodBy methodOf readTerms readHead readPositions readText ascii decimalIn decimal writeNumber writeRow writeRows listed rowsOf writeTerms writeHead textWith sameNumbers writesCodes writeText evenly lineCount headAndLines writeInto lengthOf
 computing t = writeText t
 
 -- a series whose text has 32,768 bytes, and one whose text has one more

@@ -31,6 +31,7 @@ fn print_method(method: Method) {
         Method::Wheel => print(b"wheel "),
         Method::ProRata => print(b"pro rata "),
         Method::Lottery => print(b"starting number "),
+        Method::RemainderDraw => print(b"remainder draw "),
     }
 }
 
@@ -106,6 +107,7 @@ fn reread(text: &[u8]) {
 fn texts() {
     reread(b"method,exercised,draw\nL,13,4855\naccount,short\n1,5\n2,8\n3,2\n4,10\n5,11\n");
     reread(b"method,exercised,draw\nW,175,340\naccount,short\n1,60\n2,200\n3,95\n");
+    reread(b"method,exercised,draw\nR,50,395\naccount,short\n1,1\n7,1000\n");
     reread(b"method,exercised,draw\nP,0,4294967295\naccount,short\n");
     reread(b"method,exercised,draw\nP,4,0\naccount,short\n4294967295,0\n0,4294967295\n0,0\n");
     reread(b"method,exercised,draw\nW,1,1\naccount,short\n1,1\n2,1\n3,1\n4,1\n5,1\n6,1\n");

@@ -1,4 +1,4 @@
-// Writing texts: a series, a table and a note.
+// Writing texts: a series, one table or two, and a note.
 mod names;
 mod put;
 mod row;
@@ -11,13 +11,16 @@ use series_text::names::Heading;
 use series_text::names::heading_of;
 ghost use mathlib.Core.Path.{_≡_};
 ghost use Prim.Native.Nat.{_≤_};
+ghost use mathlib.Core.List.{[], _∷_, _++_};
 ghost use lib.ListN.{length};
 ghost use Rattle.series.specs.Results.{after};
 ghost use Rattle.series.specs.Outputs.{onto};
+ghost use Rattle.series_text.specs.Rows.{writeRows, rowsOf};
 ghost use Rattle.series_text.specs.Text.{writeHead, sameNumbers};
 ghost use Rattle.series_text.specs.Calls.{writeInto, tableInto, noteInto, lengthOf};
 ghost use Rattle.text_writing.specs.Answers.{writingOf};
-ghost use Rattle.text_writing.specs.Parts.{Put};
+ghost use Rattle.text_writing.specs.Parts.{Put, FiveColumns};
+ghost use Rattle.text_writing.specs.Tables.{tablesInto};
 
 // What writing a text answers: its length, or a refusal.
 pub enum Writing {
@@ -71,7 +74,8 @@ pub fn write(
     let mut lines = [0u8; 65];
     let n = put_head(&mut lines, coded, terms);
     let head = &lines[..n];
-    match table::measure(head, coded, codes, accounts, shorts) {
+    let left_out = table::left_out_of(coded);
+    match table::measure(head, left_out, accounts, accounts, codes, accounts, shorts) {
         Writing::Refused(refusal) => Writing::Refused(refusal),
         Writing::Written(bytes) => {
             if bytes > 32768 {
@@ -80,9 +84,38 @@ pub fn write(
             if text.len() < bytes {
                 return Writing::Refused(Refusal::OutputTooShort);
             }
-            Writing::Written(table::put_lines(head, coded, codes, accounts, shorts, text))
+            Writing::Written(table::put_lines(
+                text,
+                0,
+                head,
+                left_out,
+                accounts,
+                accounts,
+                codes,
+                accounts,
+                shorts,
+            ))
         }
     }
+}
+
+// Puts a table at the start of a text, and hands back its length.
+fn put_table(text: &mut [u8], names: &[u8], accounts: &[u32], counts: &[u32]) -> usize
+    requires { ⌜ FiveColumns (now accounts) (now accounts) (now accounts) (now accounts) (now counts) ⌝ }
+    requires { ⌜ length (now names ++ writeRows (rowsOf (now accounts ∷ now counts ∷ []))) ≤ length (now text) ⌝ }
+    ensures { λ r. ⌜ Put (now (names .entry) ++ writeRows (rowsOf (now (accounts .entry) ∷ now (counts .entry) ∷ []))) (now (text .entry)) 0 (now (text .exit)) r ⌝ }
+{
+    table::put_lines(
+        text,
+        0,
+        names,
+        3,
+        accounts,
+        accounts,
+        accounts,
+        accounts,
+        counts,
+    )
 }
 
 // Writes a table: a names line as given, and a line for each account and its count. A refusal writes nothing, and bytes past the table are kept.
@@ -90,13 +123,45 @@ pub fn write_table(names: &[u8], accounts: &[u32], counts: &[u32], text: &mut [u
     ensures { λ r. ⌜ writingOf r ≡ lengthOf (tableInto (now (names .entry)) (now (accounts .entry)) (now (counts .entry)) (length (now (text .entry)))) ⌝ }
     ensures { λ _. ⌜ now (text .exit) ≡ after (tableInto (now (names .entry)) (now (accounts .entry)) (now (counts .entry)) (length (now (text .entry)))) (λ s. onto s (now (text .entry))) (now (text .entry)) ⌝ }
 {
-    match table::measure(names, false, accounts, accounts, counts) {
+    let table = table::measure(names, 3, accounts, accounts, accounts, accounts, counts);
+    match table::both_within(table, Writing::Written(0), text.len()) {
         Writing::Refused(refusal) => Writing::Refused(refusal),
-        Writing::Written(length) => {
-            if text.len() < length {
-                return Writing::Refused(Refusal::OutputTooShort);
-            }
-            Writing::Written(table::put_lines(names, false, accounts, accounts, counts, text))
+        Writing::Written(_) => Writing::Written(put_table(text, names, accounts, counts)),
+    }
+}
+
+// Writes two tables, one after the other: each account and its count, and each account and its two ranges. A refusal writes nothing, and bytes past the tables are kept.
+pub fn write_tables(
+    names: &[u8],
+    accounts: &[u32],
+    counts: &[u32],
+    range_names: &[u8],
+    firsts: &[u32],
+    lasts: &[u32],
+    firsts2: &[u32],
+    lasts2: &[u32],
+    text: &mut [u8],
+) -> Writing
+    ensures { λ r. ⌜ writingOf r ≡ lengthOf (tablesInto (now (names .entry)) (now (accounts .entry) ∷ now (counts .entry) ∷ []) (now («range_names» .entry)) (now (accounts .entry) ∷ now (firsts .entry) ∷ now (lasts .entry) ∷ now (firsts2 .entry) ∷ now (lasts2 .entry) ∷ []) (length (now (text .entry)))) ⌝ }
+    ensures { λ _. ⌜ now (text .exit) ≡ after (tablesInto (now (names .entry)) (now (accounts .entry) ∷ now (counts .entry) ∷ []) (now («range_names» .entry)) (now (accounts .entry) ∷ now (firsts .entry) ∷ now (lasts .entry) ∷ now (firsts2 .entry) ∷ now (lasts2 .entry) ∷ []) (length (now (text .entry)))) (λ s. onto s (now (text .entry))) (now (text .entry)) ⌝ }
+{
+    let table = table::measure(names, 3, accounts, accounts, accounts, accounts, counts);
+    let ranges = table::measure(range_names, 0, accounts, firsts, lasts, firsts2, lasts2);
+    match table::both_within(table, ranges, text.len()) {
+        Writing::Refused(refusal) => Writing::Refused(refusal),
+        Writing::Written(_) => {
+            let at = put_table(text, names, accounts, counts);
+            Writing::Written(table::put_lines(
+                text,
+                at,
+                range_names,
+                0,
+                accounts,
+                firsts,
+                lasts,
+                firsts2,
+                lasts2,
+            ))
         }
     }
 }

@@ -4,7 +4,6 @@ use series_text::names::CODED_NAMES;
 use series_text::names::Heading;
 use series_text::names::POSITION_NAMES;
 use series_text::names::TERMS_NAMES;
-ghost use mathlib.Core.Path.{_≡_};
 ghost use Prim.Native.Nat.{_+_, _≤_};
 ghost use lib.ListN.{length};
 ghost use Rattle.series_text.specs.Names.{namesLine};

@@ -91,7 +91,11 @@ fn allocation(row: Row) {
     assert_eq!(list.total(), row.total);
     let (method, exercised) = (row.method, row.exercised);
     let list = list.list();
-    let draw = if method == b'W' { (row.total / 3) as u32 } else { 3_333 };
+    let draw = match method {
+        b'W' => (row.total / 3) as u32,
+        b'R' => 3_333_333_333,
+        _ => 3_333,
+    };
     let step = median(|| {
         let answer = reference::allocate(method, black_box(list), exercised, draw, row.positions);
         black_box(answer.expect("an allocation"));
@@ -116,6 +120,7 @@ fn allocation(row: Row) {
         let (same, other): (Plain, Option<Plain>) = match method {
             b'W' => (by_method::<b'W'>, Some(plain::allocate_wheel_by_division)),
             b'P' => (plain::allocate_pro_rata_by_bisection, Some(by_method::<b'P'>)),
+            b'R' => (by_method::<b'R'>, None),
             _ => (by_method::<b'L'>, None),
         };
         let mut call_same = || call_plain(same, theirs);
@@ -152,7 +157,9 @@ fn allocations() {
     println!(
         "Allocating: one call. 'stepping' is one contract at a time; 'plain' is the library's algorithm in plain Rust"
     );
-    println!("(blocks and positions, bisection, positions); 'best plain' is another one, where we know one that is");
+    println!(
+        "(blocks and positions; bisection; for L and R positions); 'best plain' is another, where we know one that is"
+    );
     println!("faster at many sizes: W with a division for each position, P with a rank by selection or histograms. A");
     println!("column 'to' has the library's time divided by theirs.");
     println!(
@@ -306,17 +313,18 @@ fn writing(list: List, length: usize, note: &str) {
 }
 
 fn responding(text: &[u8], positions: usize, note: &str) {
-    let mut printed = vec![0; 32_768];
-    let library = median(|| {
+    let [mut ours, mut theirs] = [(); 2].map(|_| vec![0; reference::MOST_PRINTED]);
+    let mut call_library = || {
         let mut written = 0;
-        assert_eq!(black_box(calls::respond(black_box(text), &mut printed, &mut written)), 0);
-        black_box(&printed);
-    });
-    let slow = median(|| {
-        black_box(reference::printed(black_box(text)));
-    });
-    let note = format!("   (plain here is the stepping version){note}");
-    text_row("respond", positions, text.len(), library, slow, &note);
+        assert_eq!(black_box(calls::respond(black_box(text), &mut ours, &mut written)), 0);
+        black_box(&ours);
+    };
+    let mut call_plain = || {
+        black_box(plain::respond(black_box(text), &mut theirs).expect("room enough"));
+        black_box(&theirs);
+    };
+    let [library, best] = medians([&mut call_library, &mut call_plain]);
+    text_row("respond", positions, text.len(), library, best, note);
 }
 
 // Accounts of ten digits, in the order of a list.
@@ -333,13 +341,13 @@ fn few_contracts(positions: usize, random: &mut Random) -> Vec<u32> {
     (0..positions).map(|_| random.spread(9_000) as u32).collect()
 }
 
-fn text_of(list: List) -> Vec<u8> {
-    reference::write(b'W', 500, 77, list, usize::MAX).expect("a text")
+fn text_of(method: u8, list: List) -> Vec<u8> {
+    reference::write(method, 500, 77, list, usize::MAX).expect("a text")
 }
 
 // Reading, writing and responding, the codes being the accounts or others.
 fn whole_text(list: List, note: &str) {
-    let (text, positions) = (text_of(list), list.accounts.len());
+    let (text, positions) = (text_of(b'W', list), list.accounts.len());
     reading(&text, positions, note);
     writing(list, text.len(), note);
     responding(&text, positions, note);
@@ -347,7 +355,8 @@ fn whole_text(list: List, note: &str) {
 
 fn texts() {
     println!();
-    println!("Texts: bytes read or written in a second. The lists or the text are not cleared first.");
+    println!("Texts: the bytes of the text read or written in a second. The lists or the text are not cleared first.");
+    println!("'respond' reads a text, assigns and prints; it is under W but where the row says otherwise.");
     println!(
         "{:<9}{:>10}{:>9}{:>12}{:>12}{:>12}{:>12}{:>12}",
         "call", "positions", "bytes", "library", "plain", "library", "plain", "to plain"
@@ -357,12 +366,15 @@ fn texts() {
         let accounts = long_accounts(positions, &mut random);
         let list = Series::by_account(accounts, few_contracts(positions, &mut random));
         whole_text(list.list(), "");
+        for (method, note) in [(b'L', "   (L)"), (b'R', "   (R, with the ranges)")] {
+            responding(&text_of(method, list.list()), positions, note);
+        }
         let mut falling = list.accounts.clone();
         falling.reverse();
         whole_text(List { accounts: &falling, ..list.list() }, "   (with codes)");
     }
     let shorts = few_contracts(1_024, &mut Random::new(0xBE7C_5000));
-    let text = text_of(List::by_account(&make::upward(1_024), &shorts));
+    let text = text_of(b'W', List::by_account(&make::upward(1_024), &shorts));
     let is_account = |i| make::is_account(make::field(false, i));
     let four_digits = make::spelled(&text, |i, digits| if is_account(i) { 4 } else { digits });
     reading(&four_digits, 1_024, "   (accounts 0001 to 1024)");

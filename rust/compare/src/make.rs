@@ -6,7 +6,7 @@ use reference::List;
 
 use crate::random::Random;
 
-pub const METHODS: [u8; 3] = *b"WPL";
+pub const METHODS: [u8; 4] = *b"WPLR";
 
 /// The fields of a text that are numbers: S, the draw, an account and shorts where there is no column of codes; then S,
 /// the draw, a code, an account and shorts where there is.
@@ -123,7 +123,7 @@ fn any_codes(random: &mut Random, count: usize) -> Vec<u32> {
 }
 
 /// The list with codes that the method takes. Of three lists one has its accounts as codes; else the codes of W rise
-/// and its accounts stand in any order, and those of P and L, where none is looked at, are any.
+/// and its accounts stand in any order, and those of P, L and R, where none is looked at, are any.
 pub fn coded(random: &mut Random, method: u8, list: &Series) -> Series {
     let mut list = list.clone();
     let count = list.shorts.len();
@@ -203,8 +203,12 @@ fn exercised(random: &mut Random, total: u64) -> u32 {
     s as u32
 }
 
-/// A draw for a method; mostly one in range.
+/// A draw for a method; mostly one in range. Under R every other one is near a multiple of T.
 fn draw(random: &mut Random, method: u8, total: u64) -> u32 {
+    if method == b'R' && random.one_in(2) {
+        let multiple = random.pick(&[0, 1, u64::from(u32::MAX) / total]) * total;
+        return (multiple + random.below(3)).saturating_sub(1).min(u64::from(u32::MAX)) as u32;
+    }
     let highest = match method {
         b'W' => total,
         b'L' => 10_000,
@@ -223,7 +227,8 @@ fn draw(random: &mut Random, method: u8, total: u64) -> u32 {
     d.min(u64::from(u32::MAX)) as u32
 }
 
-/// S and a draw for a method and a list; of the whole series and of one position every other draw is out of range.
+/// S and a draw for a method and a list; of the whole series and of one position every other draw is out of the range
+/// of W or L.
 pub fn terms(random: &mut Random, method: u8, positions: usize, total: u64) -> (u32, u32) {
     let exercised = exercised(random, total);
     if (u64::from(exercised) == total || positions == 1) && random.one_in(2) {
@@ -295,8 +300,8 @@ pub struct Call {
     pub room: usize,
 }
 
-/// A series under the three methods; at times its list is spoiled or the output is too short.
-pub fn calls(random: &mut Random, positions: u64, total: u64) -> [Call; 3] {
+/// A series under the four methods; at times its list is spoiled or the output is too short.
+pub fn calls(random: &mut Random, positions: u64, total: u64) -> [Call; 4] {
     let positions = random.spread(positions);
     let most = positions.max(random.spread(total));
     let exact = random.one_in(3);
@@ -539,7 +544,7 @@ fn byte(random: &mut Random) -> u8 {
         0 => random.bits() as u8,
         1 => random.pick(b"\n,\r\t +-.0\0"),
         2 => b'0' + random.below(10) as u8,
-        _ => random.pick(b"WPLwplXaccountshort/:;"),
+        _ => random.pick(b"WPLRwplrXaccountshort/:;"),
     }
 }
 
@@ -682,7 +687,7 @@ pub fn damage(random: &mut Random, text: &mut Vec<u8>) {
         _ => {
             // Another method, known or not.
             if starts.len() > 1 && starts[1] < length {
-                text[starts[1]] = random.pick(b"WPLRwpl ,X");
+                text[starts[1]] = random.pick(b"WPLRwplr ,X");
             }
         }
     }

@@ -7,7 +7,7 @@ use reference::List;
 const ONE: u64 = 1_000_000;
 
 fn known(method: u8) -> bool {
-    matches!(method, b'W' | b'P' | b'L')
+    matches!(method, b'W' | b'P' | b'L' | b'R')
 }
 
 /// The accounts met so far: each above the one before, or in a set from the first on that is not.
@@ -117,12 +117,12 @@ fn judged(
             amounts.copy_from_slice(shorts);
             return Ok((total, 0));
         }
-        if method == b'L' && amounts.len() == 1 {
+        if method != b'W' && amounts.len() == 1 {
             amounts[0] = exercised;
             return Ok((total, 0));
         }
         let highest = if method == b'W' { total } else { 10_000 };
-        if draw == 0 || draw > highest {
+        if method != b'R' && (draw == 0 || draw > highest) {
             return Err(10);
         }
     }
@@ -135,6 +135,7 @@ pub fn allocate(method: u8, list: List, exercised: u32, draw: u32, amounts: &mut
         b'W' => judged(method, list, exercised, draw, amounts, wheel),
         b'P' => judged(method, list, exercised, draw, amounts, pro_rata),
         b'L' => judged(method, list, exercised, draw, amounts, lottery),
+        b'R' => judged(method, list, exercised, draw, amounts, remainder_draw),
         _ => Err(14),
     }
 }
@@ -375,6 +376,18 @@ fn round_two(amounts: &mut [u32], decimals: &[u32], last: u32, equal: u32, serve
 
 fn lottery(shorts: &[u32], total: u32, exercised: u32, draw: u32, amounts: &mut [u32]) -> u32 {
     let start = (u64::from(draw) * u64::from(total)).div_ceil(10_000) as u32;
+    run(shorts, exercised, start, amounts);
+    start
+}
+
+fn remainder_draw(shorts: &[u32], total: u32, exercised: u32, draw: u32, amounts: &mut [u32]) -> u32 {
+    let start = draw % total + 1;
+    run(shorts, exercised, start, amounts);
+    start
+}
+
+/// Contracts one after the other from the starting place.
+fn run(shorts: &[u32], exercised: u32, start: u32, amounts: &mut [u32]) {
     let (first, here) = find(shorts, start);
     let mut left = exercised - exercised.min(here);
     let at_first = exercised - left;
@@ -384,7 +397,6 @@ fn lottery(shorts: &[u32], total: u32, exercised: u32, draw: u32, amounts: &mut 
         left -= take;
     }
     amounts[first] = at_first + left;
-    start
 }
 
 const NAMES_1: &[u8] = b"method,exercised,draw\n";
@@ -520,6 +532,66 @@ pub fn write(method: u8, exercised: u32, draw: u32, list: List, text: &mut [u8])
         }
         at = put(text, at, account, b',');
         at = put(text, at, short, b'\n');
+    }
+    Ok(at)
+}
+
+const AMOUNTS: &[u8] = b"account,assigned\n";
+const RANGES: &[u8] = b"account,first,last,first2,last2\n";
+const REFUSED: &[u8] = b"refused\n";
+
+/// Calls `see` with each position's account and the first and last contract of its range.
+#[inline]
+fn each_range(accounts: &[u32], shorts: &[u32], mut see: impl FnMut(u32, u32, u32)) {
+    let mut before = 0;
+    for (&account, &short) in accounts.iter().zip(shorts) {
+        see(account, before + 1, before + short);
+        before += short;
+    }
+}
+
+/// The length of what is printed for a text, or 4.
+pub fn respond(text: &[u8], output: &mut [u8]) -> Result<usize, u32> {
+    let [mut codes, mut accounts, mut shorts, mut amounts] = [[0; 1_024]; 4];
+    let answer = read(text, &mut codes, &mut accounts, &mut shorts).and_then(|(method, exercised, draw, count)| {
+        let list = List { codes: &codes[..count], accounts: &accounts[..count], shorts: &shorts[..count] };
+        let (total, _) = allocate(method, list, exercised, draw, &mut amounts[..count])?;
+        Ok((method, total, list))
+    });
+    let (method, total, List { accounts, shorts, .. }) = match answer {
+        Ok(found) => found,
+        Err(number) if output.len() < REFUSED.len() + digits(number) + 1 => return Err(4),
+        Err(number) => {
+            let at = put_bytes(output, 0, REFUSED);
+            return Ok(put(output, at, number, b'\n'));
+        }
+    };
+    let amounts = &amounts[..accounts.len()];
+    let mut length = AMOUNTS.len();
+    length +=
+        accounts.iter().zip(amounts).map(|(&account, &amount)| digits(account) + digits(amount) + 2).sum::<usize>();
+    if method == b'R' {
+        length += RANGES.len();
+        each_range(accounts, shorts, |account, first, last| {
+            length += [account, first, last, first + total, last + total].map(digits).iter().sum::<usize>() + 5;
+        });
+    }
+    if output.len() < length {
+        return Err(4);
+    }
+    let mut at = put_bytes(output, 0, AMOUNTS);
+    for (&account, &amount) in accounts.iter().zip(amounts) {
+        at = put(output, at, account, b',');
+        at = put(output, at, amount, b'\n');
+    }
+    if method == b'R' {
+        at = put_bytes(output, at, RANGES);
+        each_range(accounts, shorts, |account, first, last| {
+            for number in [account, first, last, first + total] {
+                at = put(output, at, number, b',');
+            }
+            at = put(output, at, last + total, b'\n');
+        });
     }
     Ok(at)
 }

@@ -2,7 +2,7 @@
 
 use std::fs::File;
 use std::io::{Read, Write};
-use std::path::PathBuf;
+use std::path::{Path, PathBuf};
 use std::process::{Child, Command, Output, Stdio};
 use std::sync::atomic::{AtomicU32, Ordering};
 use std::thread;
@@ -48,6 +48,10 @@ impl TextFile {
         let path = std::env::temp_dir().join(name);
         std::fs::write(&path, text).expect("a file for the text");
         TextFile(path)
+    }
+
+    pub fn path(&self) -> &Path {
+        &self.0
     }
 
     pub fn open(&self) -> File {

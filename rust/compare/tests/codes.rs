@@ -66,8 +66,9 @@ fn long_lists() {
             let shorts = vec![random.between(2, 9) as u32; length];
             let series = Series { codes: make::rising(&mut random, length), accounts, shorts };
             last_account(&mut count, &mut random, what, &series);
-            count.allocate(b'P', series.list(), 1, 1, length);
-            count.allocate(b'L', series.list(), 1, 1, length);
+            for method in *b"PLR" {
+                count.allocate(method, series.list(), 1, 1, length);
+            }
         }
     }
     count.print();
@@ -121,7 +122,7 @@ fn all_faults_of_one_position() {
                     (list.codes[at], list.accounts[at], list.shorts[at]) = (code, account, short);
                     let expected = [of_code, of_account, of_short].into_iter().find(|&n| n > 0).unwrap_or(0);
                     assert_eq!(count.allocate(b'W', list.list(), 1, 1, 4), expected, "{list:?}");
-                    for method in *b"PL" {
+                    for method in *b"PLR" {
                         count.allocate(method, list.list(), 1, 1, 4);
                     }
                 }
@@ -132,7 +133,7 @@ fn all_faults_of_one_position() {
     assert!(!count.met([0, 5, 6, 7, 19]).contains(&0));
 }
 
-// Codes of any length and value under P and L; under W another length is 1, whatever else is wrong.
+// Codes of any length and value under P, L and R; under W another length is 1, whatever else is wrong.
 #[test]
 fn codes_that_nobody_looks_at() {
     let mut random = Random::new(0xC0DE_0003);
@@ -144,13 +145,15 @@ fn codes_that_nobody_looks_at() {
             for code in [0, 1, u32::MAX] {
                 let codes = vec![code; length];
                 let list = List { codes: &codes, ..series.list() };
-                for method in *b"PL" {
+                for method in *b"PLR" {
                     assert_eq!(count.allocate(method, list, total / 3 + 1, 5, positions), 0);
                     assert_eq!(count.allocate(method, list, total, 5, positions), 0);
                 }
                 if length != positions {
                     assert_eq!(count.allocate(b'W', list, 0, 0, 0), 1);
-                    assert!(!count.case(compare::write(b'P', 1, 1, list, 60_000)));
+                    for method in *b"PR" {
+                        assert!(!count.case(compare::write(method, 1, 1, list, 60_000)));
+                    }
                 }
                 count.allocate(b'W', list, 1, 1, positions);
             }

@@ -1,5 +1,5 @@
-// The examples: what the program prints for each, that README.md shows it, the script that books only a whole list, and
-// the program of the day's activity.
+// The examples: what the program prints for each, that README.md shows it, the script that has only whole lists booked,
+// and the program of the day's activity.
 
 use std::fs::{self, File};
 use std::os::unix::fs::PermissionsExt;
@@ -7,7 +7,7 @@ use std::path::{Path, PathBuf};
 use std::process::{Command, Output, Stdio};
 use std::sync::OnceLock;
 
-use compare::program::{self, Feed};
+use compare::program::{self, Feed, TextFile};
 
 const README: &str = include_str!("../../../README.md");
 
@@ -44,10 +44,24 @@ fn every_example_prints_what_is_stored_and_shown() {
         assert_eq!(found.stderr.is_empty(), !refused, "{name}");
         assert_eq!(shown_after(&format!("`examples/{name}.txt`")), stored, "{name}");
     }
-    for name in ["wheel", "pro-rata", "lottery", "leading-zeros", "whole", "after-day", "refused"] {
+    let names =
+        ["wheel", "pro-rata", "lottery", "remainder-draw", "leading-zeros", "whole", "codes", "after-day", "refused"];
+    for name in names {
         assert!(examples.contains(&(name.to_string(), name == "refused")), "{name}");
     }
     assert_eq!(shown_after("## The text of a series"), file("lottery.txt"));
+}
+
+// The source's exhibit: all 50 contracts to the seventh, whose ranges are 156 to 1155 and 1342 to 2341.
+#[test]
+fn the_exhibit() {
+    let printed = file("remainder-draw.out");
+    assert_eq!(printed.as_bytes(), reference::printed(file("remainder-draw.txt").as_bytes()));
+    let lines: Vec<&str> = printed.lines().collect();
+    assert_eq!((lines.len(), lines[0], lines[11]), (22, "account,assigned", "account,first,last,first2,last2"));
+    for (line, expected) in [(1, "1,0"), (7, "7,50"), (10, "10,0"), (18, "7,156,1155,1342,2341")] {
+        assert_eq!(lines[line], expected);
+    }
 }
 
 // One example has its positions in another order than that of their accounts.
@@ -61,45 +75,180 @@ fn an_example_has_codes() {
     assert!(by_code > 0);
 }
 
-fn book(assign: &Path, text: &str) -> Output {
-    Command::new("sh").arg(folder().join("book.sh")).arg(folder().join(text)).env("ASSIGN", assign).output().unwrap()
+// What is booked of a list: the amounts without the ranges.
+fn amounts(printed: &str) -> &str {
+    printed.split("account,first,").next().unwrap()
+}
+
+// Runs the script with the program, or one that stands in for it.
+fn book_with(shell: &mut Command, text: &Path) -> Output {
+    shell.arg(folder().join("book.sh")).arg(text).output().unwrap()
+}
+
+fn book(text: &Path) -> Output {
+    book_with(Command::new("sh").env("ASSIGN", program::path()), text)
+}
+
+// A program that prints the file LIST, and then runs the command THEN.
+fn stand_in() -> &'static PathBuf {
+    static SCRIPT: OnceLock<PathBuf> = OnceLock::new();
+    SCRIPT.get_or_init(|| {
+        let script = PathBuf::from(env!("CARGO_TARGET_TMPDIR")).join("stand-in");
+        fs::write(&script, "#!/bin/sh\ncat \"$LIST\"\neval \"$THEN\"\n").unwrap();
+        fs::set_permissions(&script, fs::Permissions::from_mode(0o755)).unwrap();
+        script
+    })
+}
+
+// Runs the script over a program that prints the list and then runs the command; exit status and standard output.
+fn book_list(list: &str, then: &str, text: &Path) -> (Option<i32>, String) {
+    let file = TextFile::new(list.as_bytes());
+    let mut shell = Command::new("sh");
+    let found = book_with(shell.env("ASSIGN", stand_in()).env("LIST", file.path()).env("THEN", then), text);
+    assert_eq!(found.stderr.is_empty(), found.status.success());
+    (found.status.code(), String::from_utf8(found.stdout).unwrap())
+}
+
+// The list is not booked for the text, and nothing is printed.
+#[track_caller]
+fn not_booked(list: &str, text: &Path) {
+    assert_eq!(book_list(list, "", text), (Some(1), String::new()), "{list:?}");
 }
 
 #[test]
 fn only_a_whole_list_is_booked() {
     for (name, _) in examples().iter().filter(|(_, refused)| !refused) {
-        let found = book(&program::path(), &format!("{name}.txt"));
+        let found = book(&folder().join(format!("{name}.txt")));
         assert!(found.status.success() && found.stderr.is_empty(), "{name}");
-        assert_eq!(String::from_utf8(found.stdout).unwrap(), file(&format!("{name}.out")), "{name}");
+        assert_eq!(String::from_utf8(found.stdout).unwrap(), amounts(&file(&format!("{name}.out"))), "{name}");
     }
-    let refused = book(&program::path(), "refused.txt");
+    let refused = book(&folder().join("refused.txt"));
     assert_eq!((refused.status.code(), refused.stdout.len()), (Some(1), 0));
 }
 
-// A program that prints the bytes, and then runs the command.
-fn stand_in(name: &str, bytes: &str, then: &str) -> PathBuf {
-    let script = PathBuf::from(env!("CARGO_TARGET_TMPDIR")).join(name);
-    fs::write(&script, format!("#!/bin/sh\nprintf '%s' '{bytes}'\n{then}\n")).unwrap();
-    fs::set_permissions(&script, fs::Permissions::from_mode(0o755)).unwrap();
-    script
+#[test]
+fn a_whole_list_of_every_method_is_booked() {
+    let exhibit = file("remainder-draw.txt");
+    let (head, lines) = exhibit.split_once("R,50,395\n").unwrap();
+    for (terms, lines) in [
+        ("W,50,395", lines),
+        ("P,50,395", lines),
+        ("L,50,395", lines),
+        ("R,50,0", lines),
+        ("R,0000000050,4294967295", lines),
+        ("R,1186,0", lines),
+        ("R,7,0", "account,short\n9,9\n"),
+        ("R,9,0", "account,short\n0009,9\n"),
+        ("R,9999999,5", "account,short\n4294967294,1\n4294967295,9999999\n"),
+        ("R,7,11", "code,account,short\n0,8,5\n0,9,6\n"),
+    ] {
+        let text = format!("{head}{terms}\n{lines}");
+        let found = book(TextFile::new(text.as_bytes()).path());
+        assert!(found.status.success() && found.stderr.is_empty(), "{text}");
+        let printed = String::from_utf8(reference::printed(text.as_bytes())).unwrap();
+        assert!(printed.starts_with("account,assigned\n"), "{text}");
+        assert_eq!(String::from_utf8(found.stdout).unwrap(), amounts(&printed), "{text}");
+    }
+    for terms in ["R,0,395", "R,1187,395", "R,50,x", "r,50,395", "L,50,0", "W,50,1187"] {
+        let text = format!("{head}{terms}\n{lines}");
+        let found = book(TextFile::new(text.as_bytes()).path());
+        assert_eq!((found.status.code(), found.stdout.len()), (Some(1), 0), "{text}");
+    }
+}
+
+// Whole to look at, and yet the program said something or did not end by itself.
+fn not_booked_as_spoken(list: &str, text: &Path) {
+    for then in ["echo not whole >&2", "kill -9 $$", "exit 1"] {
+        assert_eq!(book_list(list, then, text), (Some(1), String::new()), "{then}");
+    }
 }
 
 #[test]
 fn any_other_list_is_not_booked() {
-    let list = file("lottery.out");
-    for end in 0..=list.len() {
-        let found = book(&stand_in("cut", &list[..end], ""), "lottery.txt");
-        assert_eq!(found.status.success(), end == list.len(), "{:?}", &list[..end]);
-        assert_eq!(found.stdout.len(), if end == list.len() { end } else { 0 });
+    let (list, text) = (file("lottery.out"), folder().join("lottery.txt"));
+    for end in 0..list.len() {
+        not_booked(&list[..end], &text);
     }
+    assert_eq!(book_list(&list, "", &text), (Some(0), list.clone()));
     // Another names line, another sum, another number of lines.
     for other in [list.replace("assigned", "short"), list.replace("5,5", "5,4"), format!("{list}6,0\n")] {
-        assert_eq!(book(&stand_in("other", &other, ""), "lottery.txt").status.code(), Some(1), "{other}");
+        not_booked(&other, &text);
     }
-    // Whole to look at, and yet the program said something or did not end by itself.
-    for then in ["echo not whole >&2", "kill -9 $$"] {
-        let found = book(&stand_in("spoken", &list, then), "lottery.txt");
-        assert_eq!((found.status.code(), found.stdout.len()), (Some(1), 0), "{then}");
+    not_booked_as_spoken(&list, &text);
+}
+
+#[test]
+fn no_list_without_its_whole_ranges_is_booked() {
+    let (list, text) = (file("remainder-draw.out"), folder().join("remainder-draw.txt"));
+    for end in 0..list.len() {
+        not_booked(&list[..end], &text);
+    }
+    assert_eq!(book_list(&list, "", &text), (Some(0), amounts(&list).to_string()));
+    let (amounts, names) = (amounts(&list), "account,first,last,first2,last2\n");
+    let ranges = list.strip_prefix(amounts).unwrap();
+    let rows = ranges.strip_prefix(names).unwrap();
+    let of_others: String = (11..)
+        .zip(rows.lines())
+        .map(|(n, row)| row.replacen(&(n - 10).to_string(), &n.to_string(), 1) + "\n")
+        .collect();
+    let turned: String = rows.lines().rev().map(|row| format!("{row}\n")).collect();
+    let (all_but_last, last) = rows.trim_end().rsplit_once('\n').unwrap();
+    for other in [
+        // Ranges that are missing, stand twice or first, or have a line too few or too many.
+        amounts.to_string(),
+        format!("{amounts}{amounts}"),
+        format!("{ranges}{amounts}"),
+        format!("{list}{ranges}"),
+        format!("{list}\n"),
+        format!("{list}x"),
+        format!("{list}11,1187,1187,2374,2374\n"),
+        format!("{list}11,1187,1187,2374,2374"),
+        format!("{list},,1,,2"),
+        format!("{amounts}{names}{all_but_last}\n"),
+        format!("{amounts}{rows}{last}\n"),
+        // As many lines in all, but one of the amounts too few or too many.
+        format!("{}{ranges}{last}\n", amounts.replace("3,0\n", "")),
+        format!("{amounts}11,0\n{names}{all_but_last}\n"),
+        // Another names line, amounts of another sum.
+        list.replace("last2", "last"),
+        list.replace("account,first", "account,First"),
+        list.replace("first2,last2\n", "first2,last2,\n"),
+        list.replace("assigned", "short"),
+        list.replace("7,50\n", "7,49\n"),
+        // Of another list: other accounts, another order, other ends.
+        format!("{amounts}{names}{of_others}"),
+        format!("{amounts}{names}{turned}"),
+        format!("{amounts}{names}{}", rows.replace("4,152,153,", "5,152,153,")),
+        list.replace("2353,2372\n", "2353,2371\n"),
+        list.replace("1167,1186,", "1167,1185,"),
+        list.replace("1167,1186,2353,2372\n", "1167,1186\n"),
+        list.replace("6,155,155,", "6,155,155,155,"),
+        "refused\n9\n".to_string(),
+    ] {
+        assert_ne!(other, list);
+        not_booked(&other, &text);
+    }
+    not_booked_as_spoken(&list, &text);
+}
+
+// Ranges after the amounts of another method, and lists of one position, which are the shortest.
+#[test]
+fn no_list_with_more_than_the_amounts_is_booked() {
+    let (list, text) = (file("lottery.out"), folder().join("lottery.txt"));
+    let names = "account,first,last,first2,last2\n";
+    let rows = "1,1,5,37,41\n2,6,13,42,49\n3,14,15,50,51\n4,16,25,52,61\n5,26,36,62,72\n";
+    for more in [&format!("{names}{rows}"), names, names.trim_end(), "\n", "x"] {
+        not_booked(&format!("{list}{more}"), &text);
+    }
+    for method in ["W", "P", "L", "R"] {
+        let text = TextFile::new(format!("method,exercised,draw\n{method},2,1\naccount,short\n8,3\n").as_bytes());
+        let short = "account,assigned\n8,2\n".to_string();
+        let long = format!("{short}{names}8,1,3,4,6\n");
+        let (whole, other) = if method == "R" { (&long, &short) } else { (&short, &long) };
+        assert_eq!(book_list(whole, "", text.path()), (Some(0), short.clone()), "{method}");
+        for list in [other.as_str(), "refused\n9\n", ""] {
+            not_booked(list, text.path());
+        }
     }
 }
 

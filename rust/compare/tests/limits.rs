@@ -50,7 +50,7 @@ fn number_of_contracts() {
         each_method(&mut count, &accounts, &base, &[1, 24, 26, MOST / 2 + 1], &[9_999]);
         each_method(&mut count, &accounts, &base, &[0, MOST, MOST + 1, u32::MAX], &draws(MOST));
         for draw in [0, 1, MOST - 1, MOST, MOST + 1, u32::MAX] {
-            for method in *b"WL" {
+            for method in *b"WLR" {
                 count.allocate(method, List::by_account(&accounts, &base), MOST - 1, draw, base.len());
             }
         }
@@ -92,13 +92,15 @@ fn lengths_of_the_lists() {
             for c in [s, a, 0, 2, 4_097] {
                 let list = List { codes: &accounts[..c], accounts: &accounts[..a], shorts: &shorts[..s] };
                 for room in [0, 1, 2, 3, 4, 4_095, 4_096, 4_097, 5_000] {
-                    for method in [b'W', b'P', b'L', b'X'] {
+                    for method in *b"WPLRX" {
                         for exercised in [0, 1] {
                             count.allocate(method, list, exercised, 1, room);
                         }
                     }
                 }
-                count.case(compare::write(b'P', 1, 1, list, 40_000));
+                for method in *b"PR" {
+                    count.case(compare::write(method, 1, 1, list, 40_000));
+                }
             }
         }
     }
@@ -123,6 +125,7 @@ fn every_method_byte() {
             let text = [&b"method,exercised,draw\n"[..], &[method], b",26,7\n", lines.as_bytes()].concat();
             count.case(compare::read(&text, [2; 3]));
             count.case(compare::respond(&text, 100));
+            count.case(compare::respond(&text, 20));
         }
     }
     count.print();
@@ -151,7 +154,7 @@ fn several_refusals_at_once() {
         for (c, codes) in codes_for(a).iter().enumerate() {
             for (n, m, room) in [(3, 3, 3), (3, 3, 2), (2, 2, 3), (3, 2, 0)] {
                 let list = List { codes: &codes[..n], accounts: &a[..n], shorts: &s[..m] };
-                // P and L look at no code.
+                // P, L and R look at no code.
                 for &method in if c == 0 { &METHODS[..] } else { b"W" } {
                     each_exercised(&mut count, method, list, room);
                 }

@@ -42,7 +42,7 @@ fn plain_allocation() {
             b'W' => plain::allocate_wheel_by_division,
             _ => plain::allocate_pro_rata_by_bisection,
         };
-        if method != b'L' {
+        if b"WP".contains(&method) {
             let _ = hold("the other way", call, |out| other(list.list(), exercised, draw, out));
         }
         met[answer.as_ref().err().map_or(0, |&number| number as usize)] += 1;
@@ -103,6 +103,40 @@ fn plain_texts() {
     count.print();
     println!("plain texts: {otherwise} accepted and written otherwise, {coded} with codes");
     assert!(otherwise > 1_000 && coded > 1_000);
+}
+
+// Holds what is printed for a text against the separate version, with an output of the length; answers whether it fits.
+fn respond(text: &[u8], room: usize) -> bool {
+    let mut output = vec![0xEE; room];
+    let found = plain::respond(text, &mut output);
+    let expected = reference::respond(text, room);
+    assert_eq!(found, expected.as_ref().map(Vec::len).map_err(|&number| number), "{}", cases::respond(text, room));
+    let written = expected.unwrap_or_default();
+    let rest = vec![0xEE; room - written.len()];
+    assert_eq!(output, [written, rest].concat(), "{}", cases::respond(text, room));
+    found.is_ok()
+}
+
+#[test]
+fn plain_printing() {
+    let mut random = Random::new(0xBE7C_0004);
+    let mut count = Count::new("plain printing");
+    let mut ranged = 0;
+    for _ in 0..12_000 {
+        let lines = make::lines(&mut random);
+        let mut text = make::text(&mut random, lines);
+        if random.one_in(3) {
+            make::damage(&mut random, &mut text);
+        }
+        let printed = reference::printed(&text);
+        count.case(Ok(!printed.starts_with(b"refused")));
+        ranged += u32::from(printed.windows(7).any(|part| part == b",first,"));
+        assert!(respond(&text, printed.len()) && respond(&text, printed.len() + 9));
+        assert!(!respond(&text, printed.len() - 1) && !respond(&text, random.index(printed.len())));
+    }
+    count.print();
+    println!("plain printing: {ranged} with ranges");
+    assert!(ranged > 1_000);
 }
 
 #[test]

@@ -13,6 +13,9 @@ use compare::{make, Count};
 const M: &[u8] = b"method,exercised,draw\nL,13,4855\naccount,short\n1,5\n2,8\n3,2\n4,10\n5,11\n";
 const M_ASSIGNED: &[u8] = b"account,assigned\n1,0\n2,0\n3,0\n4,8\n5,5\n";
 
+const EXHIBIT: &str = include_str!("../../../examples/remainder-draw.txt");
+const EXHIBIT_PRINTED: &str = include_str!("../../../examples/remainder-draw.out");
+
 // Nothing on standard output, one line on standard error.
 fn failed(what: &str, (out, err): (Vec<u8>, Vec<u8>)) {
     let shown = String::from_utf8_lossy(&err);
@@ -26,6 +29,30 @@ fn case_m_in_full() {
     for feed in [Feed::Pipe, Feed::File, Feed::Pieces(1)] {
         assert_eq!(program::run(M, feed).stdout, M_ASSIGNED);
         assert_eq!(program::compare(M, feed), Ok(true));
+    }
+}
+
+#[test]
+fn the_exhibit_in_full() {
+    let (text, printed) = (EXHIBIT, EXHIBIT_PRINTED);
+    let amounts = printed.split("account,first,").next().unwrap();
+    for (text, expected) in [
+        (text, printed),
+        // Other draws to the same place, and L from it: it prints no ranges.
+        (&text.replace(",395\n", ",1581\n"), printed),
+        (&text.replace("50,395\n", "0050,4294966563\n"), printed),
+        (&text.replace("R,50,395\n", "L,50,3338\n"), amounts),
+        (&text.replace("account,short\n1,", "account,short\n0,"), "refused\n5\n"),
+        (&text.replace("R,50,", "R,1187,"), "refused\n9\n"),
+        (&text.replace("R,50,", "R,0,"), "refused\n8\n"),
+        (&text.replace("R,50,", "r,50,"), "refused\n14\n"),
+        (&text.replace("R,50,395", "R,50,4294967296"), "refused\n13\n"),
+    ] {
+        for feed in [Feed::Pipe, Feed::File, Feed::Pieces(7)] {
+            let found = program::run(text.as_bytes(), feed).stdout;
+            assert_eq!(String::from_utf8_lossy(&found), expected, "{text}");
+            assert_eq!(program::compare(text.as_bytes(), feed), Ok(expected.starts_with("account")));
+        }
     }
 }
 
@@ -78,7 +105,7 @@ fn leading_zeros() {
 fn random_texts() {
     let mut random = Random::new(0xA551_0001);
     let mut count = Count::new("program, random texts");
-    let mut coded = 0;
+    let (mut coded, mut ranged) = (0, 0);
     for case in 0..600 {
         let lines = make::lines(&mut random);
         let mut text = make::text(&mut random, lines);
@@ -92,12 +119,13 @@ fn random_texts() {
             let series = reference::read_text(&text).expect("a series");
             count.allocated(series.method, &series.shorts, series.exercised, series.draw);
             coded += u32::from(series.codes != series.accounts);
+            ranged += u32::from(series.method == b'R');
         }
     }
     count.print();
-    println!("program, random texts: {coded} allocated with codes");
+    println!("program, random texts: {coded} allocated with codes, {ranged} with ranges");
     assert!(!count.undrawn().contains(&0));
-    assert!(coded > 20);
+    assert!(coded > 20 && ranged > 20);
 }
 
 #[test]
@@ -124,8 +152,8 @@ fn empty_and_too_long() {
     for feed in [Feed::Pipe, Feed::File] {
         count.case(program::compare(b"", feed));
         count.case(program::compare(b"\n", feed));
-        for lines in [1_023, 1_024, 1_025] {
-            let mut text = b"method,exercised,draw\nP,400,7\naccount,short\n".to_vec();
+        for (method, lines) in [1_023, 1_024, 1_025].into_iter().flat_map(|lines| [('P', lines), ('R', lines)]) {
+            let mut text = format!("method,exercised,draw\n{method},400,7\naccount,short\n").into_bytes();
             for account in 0..lines {
                 text.extend(format!("{},{}\n", 4_294_960_000u32 + account, 1 + account % 3).bytes());
             }

@@ -1,4 +1,4 @@
-// Random series with fixed seeds, each under the three methods.
+// Random series with fixed seeds, each under the four methods.
 
 use compare::make::{self, Series};
 use compare::random::Random;

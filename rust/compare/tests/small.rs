@@ -42,6 +42,15 @@ fn every_small_lottery() {
     all("small L", b'L', undrawn, |_| (0..=10_001).chain([u32::MAX]).collect());
 }
 
+#[test]
+fn every_small_remainder_draw() {
+    // No draw is out of range.
+    all("small R", b'R', [0, 0], |total| {
+        let top = u32::MAX - 2 * total;
+        (0..=3 * total + 1).chain([9_999, 10_000, 10_001]).chain(top..=u32::MAX).collect()
+    });
+}
+
 // The lists of a length with numbers from 0 to 3.
 fn up_to_three(length: u32) -> impl Iterator<Item = Vec<u32>> {
     (0..4u32.pow(length)).map(move |digits| (0..length).map(|i| digits >> (2 * i) & 3).collect())
@@ -58,7 +67,7 @@ fn every_small_list_of_codes_and_accounts() {
     for length in 1..=3 {
         let shorts = &shorts[..length];
         let total = shorts.iter().sum::<u32>();
-        let mut accepted = [0; 3];
+        let mut accepted = [0; 4];
         for codes in up_to_three(length as u32) {
             for accounts in up_to_three(length as u32) {
                 let list = List { codes: &codes, accounts: &accounts, shorts };
@@ -71,7 +80,7 @@ fn every_small_list_of_codes_and_accounts() {
             }
         }
         let by_account = RISING[length] * 4u64.pow(length as u32);
-        assert_eq!(accepted, [RISING[length] * DIFFERENT[length], by_account, by_account]);
+        assert_eq!(accepted, [RISING[length] * DIFFERENT[length], by_account, by_account, by_account]);
     }
     count.print();
 }
@@ -84,7 +93,7 @@ fn every_small_length_of_codes_and_accounts() {
         for numbers in up_to_three(3) {
             let list = List { codes: &numbers[..c], accounts: &[3, 1, 2][..a], shorts: &[4, 5, 6][..s] };
             let other = List { codes: &[3, 1, 2][..c], accounts: &numbers[..a], shorts: &[4, 5, 6][..s] };
-            for method in *b"WPLX" {
+            for method in *b"WPLRX" {
                 for list in [list, other] {
                     count.allocate(method, list, 1, 1, room);
                 }

@@ -47,7 +47,7 @@ fn allocating_by_code() {
 fn respond(text: Vec<u8>) {
     let printed = reference::printed(&text);
     assert!(printed.starts_with(b"account,assigned"));
-    let mut output = vec![0; 32_768];
+    let mut output = vec![0; reference::MOST_PRINTED];
     on_a_small_stack(move || {
         let mut written = 0;
         assert_eq!(calls::respond(&text, &mut output, &mut written), 0);
@@ -60,6 +60,15 @@ fn responding() {
     let list = Series::by_account(make::upward(1_024), vec![977; 1_024]);
     respond(reference::write(b'P', 700_000, 5, list.list(), usize::MAX).expect("a text"));
     respond(make::text_of_length(32_768));
+}
+
+#[test]
+fn responding_with_ranges() {
+    let accounts = (0..1_024).map(|i| u32::MAX - 1_023 + i).collect();
+    let list = Series::by_account(accounts, vec![9_765; 1_024]);
+    for (exercised, draw) in [(9_999_360, 0), (9_999_359, u32::MAX), (1, 9_999_360)] {
+        respond(reference::write(b'R', exercised, draw, list.list(), usize::MAX).expect("a text"));
+    }
 }
 
 #[test]

@@ -9,6 +9,8 @@ use compare::program::{self, TextFile};
 
 const M: &[u8] = include_bytes!("../../../examples/lottery.txt");
 const M_ASSIGNED: &[u8] = include_bytes!("../../../examples/lottery.out");
+const EXHIBIT: &[u8] = include_bytes!("../../../examples/remainder-draw.txt");
+const EXHIBIT_PRINTED: &[u8] = include_bytes!("../../../examples/remainder-draw.out");
 const NOT_READ: &str = "assign: the input could not be read\n";
 const NOT_WRITTEN: &str = "assign: the output could not be written\n";
 const NOT_WHOLE: &str = "assign: the list on standard output is not whole and must not be booked\n";
@@ -46,7 +48,9 @@ fn run(text: &[u8], reads: &str, writes: &str, errors: &str) -> (Vec<u8>, String
 }
 
 fn whole(reads: &str, writes: &str) {
-    assert_eq!(run(M, reads, writes, ""), (M_ASSIGNED.to_vec(), String::new()), "reads {reads}, writes {writes}");
+    for (text, printed) in [(M, M_ASSIGNED), (EXHIBIT, EXHIBIT_PRINTED)] {
+        assert_eq!(run(text, reads, writes, ""), (printed.to_vec(), String::new()), "reads {reads}, writes {writes}");
+    }
 }
 
 #[test]
@@ -85,6 +89,17 @@ fn a_write_that_fails() {
         assert_eq!(run(M, "", writes, ""), (M_ASSIGNED[..written].to_vec(), NOT_WHOLE.to_string()), "{writes}");
     }
     assert_eq!(run(b"", "", "8,-28", ""), (b"refused\n".to_vec(), NOT_WHOLE.to_string()));
+}
+
+// Cut within the amounts, after them, within the ranges and before the last byte.
+#[test]
+fn ranges_that_cannot_be_written() {
+    let amounts = EXHIBIT_PRINTED.windows(14).position(|part| part == b"account,first,").expect("ranges");
+    for written in [1, 17, amounts - 1, amounts, amounts + 1, amounts + 32, EXHIBIT_PRINTED.len() - 1] {
+        let found = run(EXHIBIT, "", &format!("{written},-28"), "");
+        assert_eq!(found, (EXHIBIT_PRINTED[..written].to_vec(), NOT_WHOLE.to_string()), "{written}");
+    }
+    assert_eq!(run(EXHIBIT, "", "-28", ""), (vec![], NOT_WRITTEN.to_string()));
 }
 
 #[test]

@@ -102,7 +102,7 @@ fn random_texts() {
     let mut reading = Count::new("texts read");
     let mut writing = Count::new("texts written");
     let mut responding = Count::new("texts responded to");
-    let (mut whole, mut damaged) = (0, 0);
+    let (mut whole, mut damaged, mut ranged) = (0, 0, 0);
     let mut spellings = Spellings::default();
     let mut met = [0; 16];
     while whole + damaged < 45_000 {
@@ -121,16 +121,20 @@ fn random_texts() {
             }
             damaged += 1;
         }
-        if let Err(number) = reference::read_text(&text) {
-            met[number as usize] += 1;
+        match reference::read_text(&text) {
+            Ok(series) => {
+                ranged += u32::from(series.method == b'R' && reference::printed(&text).starts_with(b"account"))
+            }
+            Err(number) => met[number as usize] += 1,
         }
         through(&mut random, &text, &mut reading, &mut writing, &mut responding);
     }
     println!(
-        "texts: {whole} whole, {damaged} damaged; refusals met: 11 {}, 12 {}, 13 {}, 14 {}, 15 {}",
+        "texts: {whole} whole, {damaged} damaged, {ranged} print ranges; refusals met: 11 {}, 12 {}, 13 {}, 14 {}, \
+         15 {}",
         met[11], met[12], met[13], met[14], met[15]
     );
-    assert!(met[11..].iter().all(|&n| n > 50));
+    assert!(met[11..].iter().all(|&n| n > 50) && ranged > 1_000);
     spellings.print();
     let Spellings { zeros, none, all_in_ten, forms } = spellings;
     assert!(zeros.into_iter().chain([none, all_in_ten]).chain(forms).all(|n| n > 1_000));
@@ -142,17 +146,18 @@ fn random_texts() {
 
 const M: &[u8] = b"method,exercised,draw\nL,13,4855\naccount,short\n1,5\n2,8\n3,2\n4,10\n5,11\n";
 const CODED: &[u8] = b"method,exercised,draw\nW,13,4\ncode,account,short\n3,21,6\n7,4,20\n12,11,9\n";
+const RANGED: &[u8] = b"method,exercised,draw\nR,13,49\naccount,short\n1,5\n20,8\n300,12\n";
 
 #[test]
 fn cut_at_every_place() {
     let mut count = Count::new("texts cut");
-    for text in [M, CODED] {
+    for text in [M, CODED, RANGED] {
         for end in 0..=text.len() {
             for start in [0, 1, 22] {
                 let part = &text[start.min(end)..end];
                 count.case(compare::read(part, [5; 3]));
                 count.case(compare::read(part, [1, 1, 0]));
-                count.case(compare::respond(part, 100));
+                count.case(compare::respond(part, 300));
             }
         }
     }
@@ -162,7 +167,7 @@ fn cut_at_every_place() {
 fn every_byte_at(count: &mut Count, text: &[u8], at: usize) {
     let mut run = |text: &[u8]| {
         count.case(compare::read(text, [6; 3]));
-        count.case(compare::respond(text, 100));
+        count.case(compare::respond(text, 300));
     };
     for byte in 0..=255 {
         run(&[&text[..at], &[byte], &text[at..]].concat());
@@ -178,7 +183,7 @@ fn every_byte_at(count: &mut Count, text: &[u8], at: usize) {
 #[test]
 fn every_byte_at_every_place() {
     let mut count = Count::new("texts with one byte changed, put in or removed");
-    for text in [M, CODED] {
+    for text in [M, CODED, RANGED] {
         for at in 0..=text.len() {
             every_byte_at(&mut count, text, at);
         }
@@ -291,6 +296,10 @@ fn numbers_in_every_field() {
             ("W,7,", "\naccount,short\n1,7\n"),
             ("L,1,", "\naccount,short\n1,7\n"),
             ("L,1,", "\naccount,short\n1,7\n2,1\n"),
+            ("R,1,", "\naccount,short\n1,7\n"),
+            ("R,1,", "\naccount,short\n1,7\n2,1\n"),
+            ("R,", ",5\naccount,short\n1,7\n2,1\n"),
+            ("R,1,5\naccount,short\n1,7\n2,", "\n3,3\n"),
             ("W,1,5\naccount,short\n", ",7\n"),
             ("L,1,5\naccount,short\n1,7\n2,", "\n3,3\n"),
             ("W,1,5\ncode,account,short\n", ",2,7\n"),
@@ -356,7 +365,7 @@ fn ten_digits_past_32_bits() {
 }
 
 fn respond(text: &[u8]) -> String {
-    let mut output = vec![0; 32_768];
+    let mut output = vec![0; reference::MOST_PRINTED];
     let length = dilbreth::respond(text, &mut output).expect("room enough");
     output.truncate(length);
     String::from_utf8(output).expect("ASCII")
@@ -380,7 +389,7 @@ fn spelling_changes_no_answer() {
     accounts.extend([99, 100, 65_536, 10_000_000, 999_999_999, 1_000_000_000, u32::MAX]);
     let shorts = make::upward(accounts.len());
     let codes: Vec<u32> = shorts.iter().map(|n| n * n * n).collect();
-    for (method, coded) in [(b'W', false), (b'P', false), (b'L', false), (b'W', true), (b'P', true)] {
+    for (method, coded) in make::METHODS.into_iter().flat_map(|method| [(method, false), (method, true)]) {
         let list = List { codes: if coded { &codes } else { &accounts }, accounts: &accounts, shorts: &shorts };
         let text = reference::write(method, 60, 7, list, usize::MAX).unwrap();
         let printed = respond(&text);
@@ -427,9 +436,11 @@ fn two_spellings_are_one_account() {
     let mut count = Count::new("accounts in two spellings");
     let names = "account,short";
     pairs(|account, above, one, same, next| {
-        for terms in ["W,1,7", "P,1,0", "L,1,10000"] {
-            let rising = format!("account,assigned\n{account},0\n{above},1\n");
-            assert_eq!(respond_to_pair(&mut count, terms, names, one, next), rising, "{terms} {one} {next}");
+        let rising = format!("account,assigned\n{account},0\n{above},1\n");
+        let ranges = format!("account,first,last,first2,last2\n{account},1,3,8,10\n{above},4,7,11,14\n");
+        for terms in ["W,1,7", "P,1,0", "L,1,10000", "R,1,4294967291"] {
+            let expected = if terms.starts_with('R') { format!("{rising}{ranges}") } else { rising.clone() };
+            assert_eq!(respond_to_pair(&mut count, terms, names, one, next), expected, "{terms} {one} {next}");
             for (first, second) in [(one, same), (next, one)] {
                 let found = respond_to_pair(&mut count, terms, names, first, second);
                 assert_eq!(found, "refused\n5\n", "{terms} {first} {second}");
@@ -491,8 +502,10 @@ fn lines_and_bytes_at_the_limit() {
     let mut count = Count::new("texts at the limits");
     let head = b"method,exercised,draw\nW,26,7\naccount,short\n";
     let coded = b"method,exercised,draw\nW,26,7\ncode,account,short\n";
+    let ranged = b"method,exercised,draw\nR,26,7\naccount,short\n";
     for lines in [0, 1, 1_023, 1_024, 1_025, 1_026, 2_000] {
         lines_at_the_limit(&mut count, head, lines, |account| format!("{account},3\n"));
+        lines_at_the_limit(&mut count, ranged, lines, |account| format!("{account},3\n"));
         lines_at_the_limit(&mut count, coded, lines, |code| format!("{code},{},3\n", 10_000 - code));
         lines_at_the_limit(&mut count, coded, lines, |code| format!("{code},{code},3\n"));
     }
@@ -589,7 +602,7 @@ fn random_writing() {
         }
         let series = three_lists(&mut random, lengths);
         let (exercised, draw) = (random.bits() as u32, random.spread(u64::from(u32::MAX)) as u32);
-        let method = random.pick(b"WPLWPLWPLwX");
+        let method = random.pick(b"WPLRWPLRWPLRwX");
         let answer = reference::write(method, exercised, draw, series.list(), usize::MAX);
         met[answer.as_ref().err().map_or(0, |&number| number as usize)] += 1;
         let needed = answer.map_or(60, |text| text.len());

@@ -1,4 +1,4 @@
-// Series that need no draw (S equal to T under W and L, one position under L), and the calls next to them.
+// Series that need no draw (S equal to T under W, L and R, one position under L and R), and the calls next to them.
 
 use compare::make::{self, Series};
 use compare::program::{self, Feed};
@@ -85,7 +85,8 @@ fn running_the_program() {
     texts("no draw needed, program", 0xD4A3_0003, 6, |text| program::compare(text, Feed::Pipe));
 }
 
-// The answer as it was before: the draw is judged before anything is decided.
+// The answer as it was before: the draw is judged before anything is decided. Under R, where there was none, the answer
+// by its draw in any case.
 fn before(method: u8, list: &Series, exercised: u32, draw: u32, room: usize) -> Result<Allocation, u32> {
     let total = reference::judge(method, list.list(), exercised, room)?;
     reference::judge_draw(method, total, draw)?;
@@ -103,9 +104,10 @@ fn hold(method: u8, list: &Series, exercised: u32, draw: u32, room: usize) -> us
     let before = before(method, list, exercised, draw, room);
     let after = reference::allocate(method, list.list(), exercised, draw, room);
     let whole = u64::from(exercised) == list.total();
-    let one = method == b'L' && list.shorts.len() == 1;
+    let placed = b"LR".contains(&method);
+    let one = placed && list.shorts.len() == 1;
     let expected = match before.clone() {
-        Ok(a) if method == b'L' && (whole || one) => Ok(Allocation { further: 0, ..a }),
+        Ok(a) if placed && (whole || one) => Ok(Allocation { further: 0, ..a }),
         Err(10) if whole => Ok(Allocation { amounts: list.shorts.clone(), total: exercised, further: 0 }),
         Err(10) if one => Ok(Allocation { amounts: vec![exercised], total: list.shorts[0], further: 0 }),
         other => other,
@@ -121,7 +123,7 @@ fn before_and_after() {
         let places = (1..=total).map(|place| place * 10_000 / total);
         let draws: Vec<u32> = make::draws(total).into_iter().chain(3..total).chain(places).collect();
         for list in make::lists(total) {
-            for method in *b"WPLX" {
+            for method in *b"WPLRX" {
                 for exercised in 0..=total + 1 {
                     for &draw in &draws {
                         change[hold(method, &list, exercised, draw, list.shorts.len())] += 1;

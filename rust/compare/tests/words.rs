@@ -1,7 +1,8 @@
 // The words for the refusals: README.md and the header show those of the library.
 
+use compare::make::METHODS;
 use compare::Count;
-use dilbreth::Day;
+use dilbreth::{Day, Method};
 
 const README: &str = include_str!("../../../README.md");
 const HEADER: &str = include_str!("../../../include/dilbreth.h");
@@ -53,6 +54,34 @@ fn every_number_and_output() {
     }
     assert_eq!(longest as u32, header_constant("DILBRETH_LONGEST_EXPLANATION"));
     count.print();
+}
+
+// The letters of the methods, as the header, the Pascal unit and the Rust wrapper have them.
+#[test]
+fn one_letter_for_each_method() {
+    let methods = [
+        ("WHEEL", Method::Wheel),
+        ("PRO_RATA", Method::ProRata),
+        ("LOTTERY", Method::Lottery),
+        ("REMAINDER_DRAW", Method::RemainderDraw),
+    ];
+    for ((name, method), letter) in methods.into_iter().zip(METHODS) {
+        assert_eq!((method.byte(), Method::from_byte(letter)), (letter, Some(method)));
+        let letter = char::from(letter);
+        let [line, of_unit] = [
+            format!("#define DILBRETH_{name} ((uint8_t)'{letter}')\n"),
+            format!("  DILBRETH_{name} = Ord('{letter}');\n"),
+        ];
+        assert!(HEADER.contains(&line) && UNIT.contains(&of_unit), "{line}{of_unit}");
+    }
+    assert_eq!((0..=255).filter(|&byte| Method::from_byte(byte).is_some()).count(), METHODS.len());
+}
+
+// What the header says is always enough for what `assign` prints.
+#[test]
+fn room_for_all_that_is_printed() {
+    assert_eq!(reference::MOST_PRINTED, 70_705);
+    assert!(HEADER.contains("the length of output (70,705 is always enough)"));
 }
 
 // The constants that the header, the Pascal unit and the Rust wrapper each have.

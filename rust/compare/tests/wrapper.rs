@@ -1,10 +1,13 @@
-// The safe wrapper, by the series with known amounts and the circular's days.
+// The safe wrapper, by the series with known amounts, the exhibit and the circular's days.
 
 use dilbreth::{AfterDay, Allocated, Day, Investor, MarketMaker, Method, Refused, Terms};
 
 type Known = (Method, &'static [u32], u32, u32, &'static [u32], u32);
 
-const KNOWN: [Known; 16] = [
+// The shorts of the exhibit.
+const EXHIBIT: [u32; 10] = [1, 50, 100, 2, 1, 1, 1000, 1, 10, 20];
+
+const KNOWN: [Known; 21] = [
     (Method::Wheel, &[60, 200, 95], 175, 1, &[35, 97, 43], 7),
     (Method::Wheel, &[60, 200, 95], 175, 340, &[34, 98, 43], 7),
     (Method::Wheel, &[10, 20], 26, 29, &[10, 16], 2),
@@ -22,6 +25,11 @@ const KNOWN: [Known; 16] = [
     (Method::Lottery, &[5, 8, 2, 10, 11], 36, 0, &[5, 8, 2, 10, 11], 0),
     (Method::Lottery, &[5, 8, 2, 10, 11], 36, 4855, &[5, 8, 2, 10, 11], 0),
     (Method::Lottery, &[36], 13, 0, &[13], 0),
+    (Method::RemainderDraw, &EXHIBIT, 50, 395, &[0, 0, 0, 0, 0, 0, 50, 0, 0, 0], 396),
+    (Method::RemainderDraw, &EXHIBIT, 30, u32::MAX, &[0, 0, 0, 0, 0, 0, 28, 1, 1, 0], 1128),
+    (Method::RemainderDraw, &EXHIBIT, 30, 1185, &[1, 28, 0, 0, 0, 0, 0, 0, 0, 1], 1186),
+    (Method::RemainderDraw, &EXHIBIT, 1186, 395, &EXHIBIT, 0),
+    (Method::RemainderDraw, &[36], 13, 4855, &[13], 0),
 ];
 
 #[test]
@@ -57,6 +65,22 @@ fn case_m_in_full() {
     assert_eq!(bytes[..length], text[..]);
     let length = dilbreth::respond(text, &mut bytes).unwrap();
     assert_eq!(&bytes[..length], b"account,assigned\n1,0\n2,0\n3,0\n4,8\n5,5\n");
+}
+
+#[test]
+fn the_exhibit_in_full() {
+    let text = include_bytes!("../../../examples/remainder-draw.txt");
+    let [mut codes, mut accounts, mut shorts] = [[0; 10]; 3];
+    let terms = dilbreth::read(text, &mut codes, &mut accounts, &mut shorts).unwrap();
+    assert_eq!(terms, Terms { method: Method::RemainderDraw, exercised: 50, draw: 395, positions: 10 });
+    assert_eq!((codes, accounts, shorts), (accounts, [1, 2, 3, 4, 5, 6, 7, 8, 9, 10], EXHIBIT));
+    let mut bytes = [0; 500];
+    let length = dilbreth::write(terms.method, 50, 395, &codes, &accounts, &shorts, &mut bytes).unwrap();
+    assert_eq!(bytes[..length], text[..]);
+    let printed = include_bytes!("../../../examples/remainder-draw.out");
+    let length = dilbreth::respond(text, &mut bytes).unwrap();
+    assert_eq!(bytes[..length], printed[..]);
+    assert_eq!(dilbreth::respond(text, &mut bytes[..printed.len() - 1]), Err(Refused(4)));
 }
 
 // No two numbers are equal, so each must reach its place.
@@ -153,6 +177,8 @@ fn refusals_are_errors() {
     assert_eq!(dilbreth::allocate(Method::Wheel, &[0], &[0], &[36], 13, 1, &mut [0]), Err(Refused(5)));
     assert_eq!(dilbreth::allocate(Method::Wheel, &[1], &[0], &[36], 13, 1, &mut [0]), Err(Refused(19)));
     assert_eq!(dilbreth::allocate(Method::ProRata, &[1], &[0], &[36], 13, 1, &mut [0]), Err(Refused(5)));
+    assert_eq!(dilbreth::allocate(Method::RemainderDraw, &[], &[0], &[36], 13, 1, &mut [0]), Err(Refused(5)));
+    assert_eq!(dilbreth::allocate(Method::RemainderDraw, &[], &[1], &[36], 37, 1, &mut [0]), Err(Refused(9)));
     assert_eq!(dilbreth::read(b"", &mut [], &mut [], &mut []), Err(Refused(12)));
     assert_eq!(dilbreth::write(Method::Wheel, 1, 1, &[1], &[1], &[], &mut []), Err(Refused(1)));
     assert_eq!(dilbreth::write(Method::Wheel, 1, 1, &[], &[1], &[1], &mut []), Err(Refused(1)));

@@ -6,13 +6,14 @@ mod ffi;
 use std::fmt;
 
 /// DILBRETH_VERSION of the header.
-pub const VERSION: u32 = 4;
+pub const VERSION: u32 = 5;
 
 #[derive(Clone, Copy, Debug, PartialEq, Eq)]
 pub enum Method {
     Wheel,
     ProRata,
     Lottery,
+    RemainderDraw,
 }
 
 impl Method {
@@ -21,6 +22,7 @@ impl Method {
             Method::Wheel => b'W',
             Method::ProRata => b'P',
             Method::Lottery => b'L',
+            Method::RemainderDraw => b'R',
         }
     }
 
@@ -29,6 +31,7 @@ impl Method {
             b'W' => Some(Method::Wheel),
             b'P' => Some(Method::ProRata),
             b'L' => Some(Method::Lottery),
+            b'R' => Some(Method::RemainderDraw),
             _ => None,
         }
     }
@@ -75,8 +78,8 @@ fn accepted(number: u32) -> Result<(), Refused> {
 pub struct Allocated {
     /// T, the sum of all shorts.
     pub total: u32,
-    /// The blocks of the wheel (0 where S equals T), the contracts of round two, or the starting place (0 where S
-    /// equals T or the list has one position).
+    /// The blocks of the wheel (0 where S equals T), the contracts of round two, or the starting place of the lottery
+    /// or the remainder draw (0 where S equals T or the list has one position).
     pub further: u32,
 }
 
@@ -123,8 +126,8 @@ pub struct AfterDay {
 
 /// Assigns the exercised contracts; `amounts` receives those of each position in list order. Under the wheel the codes
 /// rise and the accounts differ, in any order; the other methods have the accounts rise and look at no code, so `&[]`
-/// will do. The draw is not judged where S equals T under the wheel or the lottery, nor for one position of the
-/// lottery.
+/// will do. The draw is not looked at where S equals T, nor for one position of the lottery or the remainder draw;
+/// otherwise the wheel and the lottery judge it, and pro rata and the remainder draw take any.
 pub fn allocate(
     method: Method,
     codes: &[u32],
@@ -163,7 +166,8 @@ pub fn write(
     Ok(written)
 }
 
-/// Writes what the program `assign` prints for a text; answers its length.
+/// Writes what the program `assign` prints for a text, under the remainder draw with the ranges after the amounts;
+/// answers its length. 70,705 bytes are always enough.
 pub fn respond(text: &[u8], output: &mut [u8]) -> Result<usize, Refused> {
     let mut written = 0;
     accepted(calls::respond(text, output, &mut written))?;

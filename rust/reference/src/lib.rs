@@ -12,6 +12,9 @@ pub const MOST_CONTRACTS: u64 = 10_000_000;
 pub const MOST_BYTES: usize = 32_768;
 pub const MOST_DIGITS: usize = 10;
 pub const INCREMENT: u64 = 25;
+/// What is printed has at most so many bytes: two names lines, and for each position a line with its account and
+/// amount, ten digits each, and one with its account and the four ends of its ranges, eight digits each.
+pub const MOST_PRINTED: usize = 17 + 32 + MOST_LINES * (22 + 47);
 
 const NAMES_1: &[u8] = b"method,exercised,draw\n";
 const NAMES_3: &[u8] = b"account,short\n";
@@ -56,7 +59,7 @@ impl Series {
 }
 
 fn known(method: u8) -> bool {
-    [b'W', b'P', b'L'].contains(&method)
+    [b'W', b'P', b'L', b'R'].contains(&method)
 }
 
 fn first(refusals: &[(u32, bool)]) -> Result<(), u32> {
@@ -111,11 +114,11 @@ pub fn judge_draw(method: u8, total: u32, draw: u32) -> Result<(), u32> {
     }
 }
 
-/// The amounts where no draw is asked for: S equal to T under W and L, then one position under L.
+/// The amounts where no draw is asked for: S equal to T under W, L and R, then one position under L and R.
 fn without_draw(method: u8, shorts: &[u32], total: u32, exercised: u32) -> Option<Vec<u32>> {
     match method {
-        b'W' | b'L' if exercised == total => Some(shorts.to_vec()),
-        b'L' if shorts.len() == 1 => Some(vec![exercised]),
+        b'W' | b'L' | b'R' if exercised == total => Some(shorts.to_vec()),
+        b'L' | b'R' if shorts.len() == 1 => Some(vec![exercised]),
         _ => None,
     }
 }
@@ -125,6 +128,7 @@ pub fn by_draw(method: u8, shorts: &[u32], total: u32, exercised: u32, draw: u32
     match method {
         b'W' => wheel(shorts, total, exercised, draw),
         b'P' => pro_rata(shorts, total, exercised, draw),
+        b'R' => remainder_draw(shorts, total, exercised, draw),
         _ => lottery(shorts, total, exercised, draw),
     }
 }
@@ -258,6 +262,44 @@ fn lottery(shorts: &[u32], total: u32, exercised: u32, draw: u32) -> (Vec<u32>, 
     (amounts, start)
 }
 
+/// The two ranges of each position, as first, last, first2 and last2: the contracts are counted one by one through the
+/// list, and on through it once more. No shorts may be 0.
+pub fn ranges(shorts: &[u32]) -> Vec<[u32; 4]> {
+    let mut found = vec![[0; 4]; shorts.len()];
+    let mut number = 0;
+    for second in [0, 2] {
+        for (range, &short) in found.iter_mut().zip(shorts) {
+            for contract in 0..short {
+                number += 1;
+                if contract == 0 {
+                    range[second] = number;
+                }
+                range[second + 1] = number;
+            }
+        }
+    }
+    found
+}
+
+/// Starts one above what the draw leaves over when divided by T, and selects contracts one by one, each from the
+/// position with the range that it falls into: the first ranges in list order, then the second ones.
+fn remainder_draw(shorts: &[u32], total: u32, exercised: u32, draw: u32) -> (Vec<u32>, u32) {
+    let ranges = ranges(shorts);
+    let first_ranges = ranges.iter().map(|range| (range[0], range[1]));
+    let mut in_turn = first_ranges.chain(ranges.iter().map(|range| (range[2], range[3]))).enumerate();
+    let start = draw % total + 1;
+    let mut amounts = vec![0; shorts.len()];
+    let (mut at, (mut first, mut last)) = in_turn.next().expect("a range");
+    for contract in start..start + exercised {
+        while contract > last {
+            (at, (first, last)) = in_turn.next().expect("a range");
+        }
+        assert!(first <= contract, "contract {contract} is in no range: {shorts:?}");
+        amounts[at % shorts.len()] += 1;
+    }
+    (amounts, start)
+}
+
 /// A number has one to ten digits, leading zeros among them, and fits 32 bits.
 fn number(field: &[u8]) -> Result<u32, u32> {
     let one_to_ten = (1..=MOST_DIGITS).contains(&field.len());
@@ -354,14 +396,20 @@ pub fn write(method: u8, exercised: u32, draw: u32, list: List, room: usize) -> 
 pub fn printed(text: &[u8]) -> Vec<u8> {
     let answer = read_text(text).and_then(|s| {
         let found = allocate(s.method, s.list(), s.exercised, s.draw, s.shorts.len())?;
-        Ok((s.accounts, found.amounts))
+        Ok((s, found.amounts))
     });
     let mut out = String::new();
     match answer {
-        Ok((accounts, amounts)) => {
+        Ok((s, amounts)) => {
             out.push_str("account,assigned\n");
-            for (account, amount) in accounts.iter().zip(&amounts) {
+            for (account, amount) in s.accounts.iter().zip(&amounts) {
                 out.push_str(&format!("{account},{amount}\n"));
+            }
+            if s.method == b'R' {
+                out.push_str("account,first,last,first2,last2\n");
+                for (account, [first, last, first2, last2]) in s.accounts.iter().zip(ranges(&s.shorts)) {
+                    out.push_str(&format!("{account},{first},{last},{first2},{last2}\n"));
+                }
             }
         }
         Err(number) => out.push_str(&format!("refused\n{number}\n")),

@@ -21,6 +21,8 @@ const KNOWN: [Known; 12] = [
 const SHORTS: [u32; 5] = [5, 8, 2, 10, 11];
 const DRAWS: [u32; 8] = [0, 1, 18, 36, 37, 10_000, 10_001, u32::MAX];
 
+const METHODS: [u8; 4] = *b"WPLR";
+
 fn upward(count: usize) -> Vec<u32> {
     (1..=count as u32).collect()
 }
@@ -98,7 +100,7 @@ fn case_m_in_full() {
 fn facts_at_the_edges() {
     assert_eq!(starting_place(3, 3333), 1);
     assert_eq!(starting_place(3, 3334), 2);
-    for method in [b'W', b'P', b'L'] {
+    for method in METHODS {
         assert_eq!(answer(method, &SHORTS, 36, 1).unwrap().amounts, SHORTS);
         assert_eq!(answer(method, &SHORTS, 37, 1), Err(9));
     }
@@ -110,7 +112,10 @@ fn facts_at_the_edges() {
         assert_eq!(answer(b'L', &SHORTS, exercised, 10_001), Err(10));
         assert_eq!(answer(b'L', &SHORTS, exercised, 10_000).unwrap().further, 36);
     }
-    assert!(answer(b'P', &SHORTS, 13, u32::MAX).is_ok());
+    for draw in DRAWS {
+        assert!(answer(b'P', &SHORTS, 13, draw).is_ok());
+        assert_eq!(answer(b'R', &SHORTS, 13, draw).unwrap().further, draw % 36 + 1);
+    }
     assert_eq!(answer(b'P', &SHORTS, 36, 0).unwrap().further, 0);
 }
 
@@ -137,7 +142,7 @@ fn cut_offs_of_round_two() {
 
 #[test]
 fn a_whole_series_needs_no_draw() {
-    for method in [b'W', b'P', b'L'] {
+    for method in METHODS {
         for draw in DRAWS {
             let whole = Allocation { amounts: SHORTS.to_vec(), total: 36, further: 0 };
             assert_eq!(answer(method, &SHORTS, 36, draw), Ok(whole), "{method} {draw}");
@@ -146,11 +151,12 @@ fn a_whole_series_needs_no_draw() {
 }
 
 #[test]
-fn one_position_needs_no_draw_under_l() {
+fn one_position_needs_no_draw_under_l_and_r() {
     for exercised in 1..=36 {
         for draw in DRAWS {
             let all = Ok(Allocation { amounts: vec![exercised], total: 36, further: 0 });
             assert_eq!(answer(b'L', &[36], exercised, draw), all, "{draw}");
+            assert_eq!(answer(b'R', &[36], exercised, draw), all, "{draw}");
             let wheel = answer(b'W', &[36], exercised, draw);
             if exercised == 36 {
                 assert_eq!(wheel, all, "{draw}");
@@ -163,11 +169,13 @@ fn one_position_needs_no_draw_under_l() {
     }
     assert_eq!(answer(b'L', &[1, 35], 35, 0), Err(10));
     assert_eq!(answer(b'L', &[1, 35], 36, 0).unwrap().further, 0);
+    assert_eq!(answer(b'R', &[1, 35], 35, 0).unwrap().further, 1);
+    assert_eq!(answer(b'R', &[1, 35], 36, 0).unwrap().further, 0);
 }
 
 #[test]
 fn exercised_is_judged_before_the_draw() {
-    for method in [b'W', b'P', b'L'] {
+    for method in METHODS {
         for shorts in [&SHORTS[..], &[36]] {
             for draw in DRAWS {
                 assert_eq!(answer(method, shorts, 0, draw), Err(8));
@@ -182,7 +190,7 @@ fn amounts_add_up_and_keep_within_the_shorts() {
     let lists: [&[u32]; 5] = [&[1], &[7, 1, 30], &[25, 25, 25], &[100, 3, 3, 3, 1], &[13, 77, 26, 9]];
     for shorts in lists {
         let total: u32 = shorts.iter().sum();
-        for method in [b'W', b'P', b'L'] {
+        for method in METHODS {
             for exercised in 1..=total {
                 for draw in 1..=total {
                     let found = answer(method, shorts, exercised, draw).unwrap();
@@ -203,10 +211,11 @@ fn amounts_add_up_and_keep_within_the_shorts() {
 fn shares_over_all_starting_places() {
     for shorts in [&[7, 1, 30][..], &[25, 25, 26], &[60, 20, 95]] {
         let total: u32 = shorts.iter().sum();
-        for exercised in 1..=total {
+        for (method, exercised) in (1..=total).flat_map(|exercised| [(b'W', exercised), (b'R', exercised)]) {
             let mut sums = vec![0; shorts.len()];
             for place in 1..=total {
-                let amounts = answer(b'W', shorts, exercised, place).unwrap().amounts;
+                let draw = if method == b'W' { place } else { place - 1 };
+                let amounts = answer(method, shorts, exercised, draw).unwrap().amounts;
                 for (sum, amount) in sums.iter_mut().zip(amounts) {
                     *sum += amount;
                 }
@@ -453,6 +462,8 @@ fn printed_refusals() {
     for (line, rest) in [("W,1,2\n", "1,1\n"), ("L,1,0\n", "1,1\n"), ("L,1,0\n", "1,2\n")] {
         assert_eq!(printed(&text(line, "account,short\n", rest)), b"account,assigned\n1,1\n");
     }
+    assert_eq!(printed(&text("R,1,\n", "account,short\n", "1,1\n")), b"refused\n13\n");
+    assert_eq!(printed(&text("R,2,1\n", "account,short\n", "1,1\n")), b"refused\n9\n");
     assert_eq!(printed(&text("W,1,\n", "account,short\n", "1,1\n")), b"refused\n13\n");
     assert_eq!(respond(b"", 10), Err(4));
     assert_eq!(respond(b"", 11), Ok(b"refused\n12\n".to_vec()));
@@ -466,15 +477,17 @@ const CODED_TEXT: &str = "method,exercised,draw\nW,175,1\ncode,account,short\n3,
 fn the_wheel_goes_by_code() {
     let found = allocate(b'W', CODED, 175, 1, 3);
     assert_eq!(found, Ok(Allocation { amounts: vec![35, 97, 43], total: 355, further: 7 }));
-    for method in *b"PL" {
+    for method in *b"PLR" {
         assert_eq!(allocate(method, CODED, 175, 1, 3), Err(5));
     }
 }
 
-// The number that W meets with one contract exercised of a list, and P with the same.
+// The number that W meets with one contract exercised of a list, and P, L and R with the same.
 fn met(codes: &[u32], accounts: &[u32], shorts: &[u32]) -> [u32; 2] {
     let list = List { codes, accounts, shorts };
-    [b'W', b'P'].map(|method| allocate(method, list, 1, 1, 9).map_or_else(|number| number, |_| 0))
+    let [w, p, l, r] = METHODS.map(|method| allocate(method, list, 1, 1, 9).map_or_else(|number| number, |_| 0));
+    assert_eq!((l, r), (p, p), "{list:?}");
+    [w, p]
 }
 
 #[test]
@@ -544,6 +557,9 @@ fn texts_with_codes() {
     assert_eq!(read_text(&text("W,1,1\n", LONG_NAMES, &most)).unwrap().codes, [0; 1_024]);
     assert_eq!(read_text(&text("W,1,1\n", LONG_NAMES, &format!("{most}x"))), Err(15));
     assert_eq!(printed(&text("L,3,5000\n", LONG_NAMES, "0,4,2\n0,5,2\n")), b"account,assigned\n4,1\n5,2\n");
+    let ranges = "account,first,last,first2,last2\n4,1,2,5,6\n5,3,4,7,8\n";
+    let expected = format!("account,assigned\n4,1\n5,2\n{ranges}");
+    assert_eq!(printed(&text("R,3,1\n", LONG_NAMES, "0,4,2\n0,5,2\n")), expected.as_bytes());
 }
 
 #[test]
@@ -559,5 +575,85 @@ fn a_code_column_that_says_nothing_is_left_out() {
         let found = write(b'W', 1, 1, series.list(), MOST_BYTES).unwrap();
         assert_eq!(String::from_utf8_lossy(&found), format!("method,exercised,draw\nW,1,1\n{written}"));
         assert_eq!(read_text(&found), Ok(series));
+    }
+}
+
+// The source's exhibit, its customers A to J as accounts 1 to 10.
+const EXHIBIT: [u32; 10] = [1, 50, 100, 2, 1, 1, 1000, 1, 10, 20];
+const EXHIBIT_RANGES: [[u32; 4]; 10] = [
+    [1, 1, 1187, 1187],
+    [2, 51, 1188, 1237],
+    [52, 151, 1238, 1337],
+    [152, 153, 1338, 1339],
+    [154, 154, 1340, 1340],
+    [155, 155, 1341, 1341],
+    [156, 1155, 1342, 2341],
+    [1156, 1156, 2342, 2342],
+    [1157, 1166, 2343, 2352],
+    [1167, 1186, 2353, 2372],
+];
+
+#[test]
+fn the_exhibit() {
+    let amounts = vec![0, 0, 0, 0, 0, 0, 50, 0, 0, 0];
+    assert_eq!(answer(b'R', &EXHIBIT, 50, 395), Ok(Allocation { amounts, total: 1186, further: 396 }));
+    assert_eq!(ranges(&EXHIBIT), EXHIBIT_RANGES);
+    let (mut lines, mut assigned, mut ranges) = (String::new(), String::new(), String::new());
+    for (account, (short, [first, last, first2, last2])) in (1..).zip(EXHIBIT.iter().zip(EXHIBIT_RANGES)) {
+        lines += &format!("{account},{short}\n");
+        assigned += &format!("{account},{}\n", if account == 7 { 50 } else { 0 });
+        ranges += &format!("{account},{first},{last},{first2},{last2}\n");
+    }
+    let expected = format!("account,assigned\n{assigned}account,first,last,first2,last2\n{ranges}");
+    let text = text("R,50,395\n", NAMES, &lines);
+    assert_eq!(String::from_utf8_lossy(&printed(&text)), expected);
+    assert_eq!(respond(&text, expected.len() - 1), Err(4));
+    assert_eq!(respond(&text, expected.len()).map(|out| out.len()), Ok(expected.len()));
+    // The last contract, on from there to the top, and the draws that lead to the same place.
+    let mut amounts = vec![1, 29, 0, 0, 0, 0, 0, 0, 0, 20];
+    let answers = [1_166, 1_166 + 1_186, u32::MAX - u32::MAX % 1_186 - 20].map(|draw| answer(b'R', &EXHIBIT, 50, draw));
+    assert_eq!(answers, [(); 3].map(|_| Ok(Allocation { amounts: amounts.clone(), total: 1_186, further: 1_167 })));
+    amounts[9] = 1;
+    amounts[1] = 0;
+    assert_eq!(answer(b'R', &EXHIBIT, 2, 1_185), Ok(Allocation { amounts, total: 1_186, further: 1_186 }));
+}
+
+#[test]
+fn places_of_the_remainder_draw() {
+    for shorts in [&SHORTS[..], &[1, 35], &[35, 1], &[12, 12, 12]] {
+        for exercised in [1, 2, 13, 35] {
+            for draw in (0..=100).chain(u32::MAX - 100..=u32::MAX) {
+                let found = answer(b'R', shorts, exercised, draw).unwrap();
+                assert_eq!(found.further, draw - draw / 36 * 36 + 1);
+                // The draw of L that leads to the same place.
+                let draw = found.further * 10_000 / 36;
+                assert_eq!(answer(b'L', shorts, exercised, draw), Ok(found), "{shorts:?} {exercised} {draw}");
+            }
+        }
+    }
+}
+
+#[test]
+fn ranges_are_printed_under_r_alone() {
+    let names = "account,first,last,first2,last2\n";
+    for (line, lines, expected) in [
+        ("R,2,4294967295\n", "3,1\n7,1\n9,1\n", "3,1\n7,1\n9,0\n"),
+        // Whole, with any draw, and one position.
+        ("R,3,0\n", "3,1\n7,1\n9,1\n", "3,1\n7,1\n9,1\n"),
+        ("R,3,4294967295\n", "3,1\n7,1\n9,1\n", "3,1\n7,1\n9,1\n"),
+    ] {
+        let expected = format!("account,assigned\n{expected}{names}3,1,1,4,4\n7,2,2,5,5\n9,3,3,6,6\n");
+        assert_eq!(printed(&text(line, NAMES, lines)), expected.as_bytes(), "{line}");
+        for method in ["W", "P", "L"] {
+            let found = printed(&text(&line.replace('R', method), NAMES, lines));
+            assert!(!found.ends_with(b",6,6\n") && !found.windows(6).any(|part| part == b"first2"), "{method}");
+        }
+    }
+    let one = printed(&text("R,4,0\n", NAMES, "4294967295,10000000\n"));
+    let expected = format!("account,assigned\n4294967295,4\n{names}4294967295,1,10000000,10000001,20000000\n");
+    assert_eq!(one, expected.as_bytes());
+    let refused = [("R,0,1\n", "1,1\n", 8), ("R,3,1\n", "1,1\n2,1\n", 9), ("R,1,1\n", "2,1\n1,1\n", 5)];
+    for (line, lines, number) in refused {
+        assert_eq!(printed(&text(line, NAMES, lines)), format!("refused\n{number}\n").as_bytes(), "{line}");
     }
 }

@@ -20,8 +20,14 @@ allocate-requires c κs = search needs
 enum-told-3 : tie.Need-enum-told-3
 enum-told-3 c = search needs
 
-allocate-lottery-requires : tie.Need-allocate-lottery-requires
-allocate-lottery-requires c κs = search needs
+allocate-started-requires : tie.Need-allocate-started-requires
+allocate-started-requires c κs = search needs
+
+enum-told-4 : tie.Need-enum-told-4
+enum-told-4 c = search needs
+
+allocate-started-requires-2 : tie.Need-allocate-started-requires-2
+allocate-started-requires-2 c κs = search needs
 
 same-length : tie.Need-same-length
 same-length c = search needs
@@ -42,7 +48,14 @@ same-length-3 c = search needs
 
 returns-3 : tie.Need-returns-3
 returns-3 c = let a = c .before .before .before .before .before .before .before .before .before .before .before .args in
-    by-method (a .terms) Method.Lottery (a .codes .now) (a .accounts .now) (a .shorts .now) _ (a .amounts .now) _ (c .before .before .before .before .enum-told3 .given .1) (c .before .before .allocate-lottery .ensures (a .codes .now))
+    by-method (a .terms) Method.Lottery (a .codes .now) (a .accounts .now) (a .shorts .now) _ (a .amounts .now) _ (c .before .before .before .before .enum-told3 .given .1) (c .before .before .allocate-started .ensures (a .codes .now))
+
+same-length-4 : tie.Need-same-length-4
+same-length-4 c = search needs
+
+returns-4 : tie.Need-returns-4
+returns-4 c = let a = c .before .before .before .before .before .before .before .before .before .before .before .args in
+    by-method (a .terms) Method.RemainderDraw (a .codes .now) (a .accounts .now) (a .shorts .now) _ (a .amounts .now) _ (c .before .before .before .before .enum-told4 .given .1) (c .before .before .allocate-started2 .ensures (a .codes .now))
 
 pub allocate-spec : {M : Type 1} → statement M
 allocate-spec =
@@ -53,10 +66,14 @@ allocate-spec =
     enum-told-2
     allocate-requires
     enum-told-3
-    allocate-lottery-requires
+    allocate-started-requires
+    enum-told-4
+    allocate-started-requires-2
     same-length
     returns
     same-length-2
     returns-2
     same-length-3
-    returns-3)
+    returns-3
+    same-length-4
+    returns-4)

@@ -4,7 +4,7 @@ use lib.ListN.{length}
 use Rattle.series.specs.Series.{Series}
 use Rattle.series.specs.Answers.{answerOf}
 use Rattle.series.specs.Call.{answer}
-use Rattle.assignment_text.proofs.PrintLaws.{turned-away, amounts-are, assigned-all}
+use Rattle.assignment_text.proofs.PrintLaws.{turned-away, few-contracts, amounts-are, assigned-all}
 use borrow.Author.Needs.{needs}
 use Rattle.assignment_text.proofs.assign.Statement.{statement}
 use Rattle.assignment_text.proofs.assign.Tie as tie
@@ -24,8 +24,11 @@ allocate-requires c κs = search needs
 enum-known-answer : tie.Need-enum-known-answer
 enum-known-answer c = search needs
 
-print-requires : tie.Need-print-requires
-print-requires c κs = search needs
+print-by-requires : tie.Need-print-by-requires
+unfolding series
+print-by-requires c κs = let s = c .before .before .before .before .before .before .before .before .before .before .before .before in
+    let call = c .before .before .before .before .before in
+    (record { same = s .pre .same; beside = call .allocate .kept .1 .1 .1 .1 .0 ∙ s .pre .beside; few = s .pre .few }, few-contracts (series call) (call .allocate .result) (c .before .before .match .keys2) (told call))
 
 same-length : tie.Need-same-length
 same-length c = search needs
@@ -38,7 +41,7 @@ unfolding series
 returns c = let s = c .before .before .before .before .before .before .before .before .before .before .before .before .before .before .before in
     let call = c .before .before .before .before .before .before .before .before in
     let is = amounts-are (series call) (call .allocate .result) (c .before .before .before .before .before .match .keys2) (told call) (s .args .amounts .now) _ (s .pre .beside) (call .allocate .ensures .written) in
-    assigned-all (series call) (call .allocate .result) (c .before .before .before .before .before .match .keys2) (told call) (c .before .before .print .result) (s .args .output .now) _ (rw is at (c .before .before .print .ensures))
+    assigned-all (series call) (call .allocate .result) (c .before .before .before .before .before .match .keys2) (told call) (c .before .before .print-by .result) (s .args .output .now) _ (rw is at (c .before .before .print-by .ensures))
 
 refuse-requires : tie.Need-refuse-requires
 refuse-requires c κs = search needs
@@ -60,7 +63,7 @@ assign-spec =
     (tie.spec
     allocate-requires
     enum-known-answer
-    print-requires
+    print-by-requires
     same-length
     same-length-2
     returns

@@ -1,6 +1,6 @@
 -- `is_undrawn` meets its contract: each method's own case.
 use borrow.Author.Needs.{needs}
-use Rattle.judging.proofs.TableLaws.{wheel-undrawn, pro-rata-undrawn, lottery-undrawn, lottery-undrawn-by-positions}
+use Rattle.judging.proofs.TableLaws.{wheel-undrawn, pro-rata-undrawn, lottery-undrawn, remainder-undrawn}
 use Rattle.judging.proofs.is_undrawn.Statement.{statement}
 use Rattle.judging.proofs.is_undrawn.Tie as tie
 
@@ -13,6 +13,9 @@ enum-told-2 c = search needs
 enum-told-3 : tie.Need-enum-told-3
 enum-told-3 c = search needs
 
+enum-told-4 : tie.Need-enum-told-4
+enum-told-4 c = search needs
+
 returns : tie.Need-returns
 returns c = wheel-undrawn (c .before .before .before .before .args .terms) (c .before .before .before .before .args .total .0) (c .before .before .before .before .args .positions) (c .enum-told .given .1)
 
@@ -20,11 +23,12 @@ returns-2 : tie.Need-returns-2
 returns-2 c = pro-rata-undrawn (c .before .before .before .before .args .terms) (c .before .before .before .before .args .total .0) (c .before .before .before .before .args .positions) (c .enum-told2 .given .1)
 
 returns-3 : tie.Need-returns-3
-returns-3 c = lottery-undrawn (c .before .before .before .before .before .args .terms) (c .before .before .before .before .before .args .total .0) (c .before .before .before .before .before .args .positions) (c .before .enum-told3 .given .1) (c .if1 .taken)
+returns-3 c = lottery-undrawn (c .before .before .before .before .args .terms) (c .before .before .before .before .args .total .0) (c .before .before .before .before .args .positions) (c .enum-told3 .given .1)
 
 returns-4 : tie.Need-returns-4
-returns-4 c = lottery-undrawn-by-positions (c .before .before .before .before .before .args .terms) (c .before .before .before .before .before .args .total .0) (c .before .before .before .before .before .args .positions) (c .before .enum-told3 .given .1) (c .if1 .left)
+returns-4 c = remainder-undrawn (c .before .before .before .before .args .terms) (c .before .before .before .before .args .total .0) (c .before .before .before .before .args .positions) (c .enum-told4 .given .1)
 
 pub is-undrawn-spec : {M : Type 1} → statement M
 is-undrawn-spec =
-    tie.close (tie.spec enum-told enum-told-2 enum-told-3 returns returns-2 returns-3 returns-4)
+    tie.close
+    (tie.spec enum-told enum-told-2 enum-told-3 enum-told-4 returns returns-2 returns-3 returns-4)

@@ -22,6 +22,12 @@ enum-told-3 c = search needs
 judge-by-account-requires-2 : tie.Need-judge-by-account-requires-2
 judge-by-account-requires-2 c κs = search needs
 
+enum-told-4 : tie.Need-enum-told-4
+enum-told-4 c = search needs
+
+judge-by-account-requires-3 : tie.Need-judge-by-account-requires-3
+judge-by-account-requires-3 c κs = search needs
+
 returns : tie.Need-returns
 returns c = rw (c .before .enum-told .given .1) (c .judge-by-code .ensures)
 
@@ -30,6 +36,9 @@ returns-2 c = rw (c .before .enum-told2 .given .1) (c .judge-by-account .ensures
 
 returns-3 : tie.Need-returns-3
 returns-3 c = rw (c .before .enum-told3 .given .1) (c .judge-by-account2 .ensures Method.Lottery)
+
+returns-4 : tie.Need-returns-4
+returns-4 c = rw (c .before .enum-told4 .given .1) (c .judge-by-account3 .ensures Method.RemainderDraw)
 
 pub judge-by-spec : {M : Type 1} → statement M
 judge-by-spec =
@@ -41,6 +50,9 @@ judge-by-spec =
     judge-by-account-requires
     enum-told-3
     judge-by-account-requires-2
+    enum-told-4
+    judge-by-account-requires-3
     returns
     returns-2
-    returns-3)
+    returns-3
+    returns-4)

@@ -1,7 +1,7 @@
 -- `judge_draw` meets its contract: the one row of the method's draw.
 use borrow.Author.Needs.{needs}
 use mathlib.Core.Path.{_∙_}
-use Rattle.judging.proofs.TableLaws.{wheel-drawn, lottery-drawn, pro-rata-drawn, draw-taken, draw-refused}
+use Rattle.judging.proofs.TableLaws.{wheel-drawn, pro-rata-drawn, lottery-drawn, remainder-drawn, draw-taken, draw-refused}
 use Rattle.judging.proofs.judge_draw.Statement.{statement}
 use Rattle.judging.proofs.judge_draw.Tie as tie
 
@@ -31,12 +31,18 @@ returns-3 : tie.Need-returns-3
 returns-3 c = let a = c .before .before .before .before .args in
     draw-taken (a .total .0) (c .before .is-drawn2 .result) (c .if2 .taken) ∙ lottery-drawn (a .terms) (a .total .0) (c .before .is-drawn2 .result) (c .before .before .enum-told3 .given .1) (c .before .is-drawn2 .ensures)
 
+enum-told-4 : tie.Need-enum-told-4
+enum-told-4 c = search needs
+
 returns-4 : tie.Need-returns-4
-returns-4 c = let a = c .before .before .before .before .args in
-    draw-refused (a .total .0) (c .before .is-drawn .result) (c .if1 .left) ∙ wheel-drawn (a .terms) (a .total .0) (c .before .is-drawn .result) (c .before .before .enum-told .given .1) (c .before .is-drawn .ensures)
+returns-4 c = remainder-drawn (c .before .before .args .terms) (c .before .before .args .total .0) (c .enum-told4 .given .1)
 
 returns-5 : tie.Need-returns-5
 returns-5 c = let a = c .before .before .before .before .args in
+    draw-refused (a .total .0) (c .before .is-drawn .result) (c .if1 .left) ∙ wheel-drawn (a .terms) (a .total .0) (c .before .is-drawn .result) (c .before .before .enum-told .given .1) (c .before .is-drawn .ensures)
+
+returns-6 : tie.Need-returns-6
+returns-6 c = let a = c .before .before .before .before .args in
     draw-refused (a .total .0) (c .before .is-drawn2 .result) (c .if2 .left) ∙ lottery-drawn (a .terms) (a .total .0) (c .before .is-drawn2 .result) (c .before .before .enum-told3 .given .1) (c .before .is-drawn2 .ensures)
 
 pub judge-draw-spec : {M : Type 1} → statement M
@@ -51,5 +57,7 @@ judge-draw-spec =
     enum-told-3
     is-drawn-requires-2
     returns-3
+    enum-told-4
     returns-4
-    returns-5)
+    returns-5
+    returns-6)

@@ -1,53 +1,68 @@
 -- `write_table` meets its contract: a table is a head and lines of two columns, measured and put.
-use mathlib.Core.Path.{refl, sym, ap, _∙_}
+use mathlib.Core.Path.{_≡_, refl, sym, ap, _∙_}
 use mathlib.Core.Bool.{false}
+use mathlib.Core.List.{List, [], _∷_}
+use Prim.Native.Nat.{ℕ}
 use native.Mathlib.Omega.{arith}
-use lib.ListN.{length-append}
-use Rattle.series_text.specs.Rows.{writeRows, rowsOf}
-use Rattle.series_text.specs.Text.{columnsBy}
-use Rattle.series_text.specs.Calls.{tableInto, linesInto}
+use lib.ListN.{length}
+use Rattle.series.specs.Results.{value}
+use Rattle.series_text.specs.Calls.{headAndLines, tableInto, lengthOf}
 use Rattle.text_writing.specs.Answers.{writingOf}
-use Rattle.text_writing.proofs.WriteLaws.{measured, measured-columns, leaves-refused, lines-short, lines-put}
+use Rattle.text_writing.specs.Tables.{bothWithin}
+use Rattle.text_writing.proofs.WriteLaws.{Fitting, headed, series-unwritten, measured-columns, table-refused, table-fits, table-put}
 use borrow.Author.Needs.{needs}
 use Rattle.text_writing.proofs.write_table.Statement.{statement}
 use Rattle.text_writing.proofs.write_table.Tie as tie
 
+-- the columns of the table
+abbrev columns : tie.Start → List (List ℕ)
+columns s = s .args .accounts .now ∷ s .args .counts .now ∷ []
+
+-- what was measured is the head and the lines, with the room
+within-is : (c : tie.After-both-within) → let s = c .before .before .before .before .before .before in writingOf (c .both-within .result) ≡ bothWithin (lengthOf (headAndLines (s .args .names .now) (columns s))) (value 0) (length (s .args .text .now))
+within-is c = rw (c .before .measure .ensures) at (c .both-within .ensures)
+
+-- the table fits
+fit : (c : tie.After-enum-told) → let s = c .before .before .before .before .before .before .before .before in Fitting (headAndLines (s .args .names .now) (columns s)) (value []) (headed (s .args .names .now) (columns s)) [] (length (s .args .text .now))
+fit c = let s = c .before .before .before .before .before .before .before .before in table-fits (s .args .names .now) (columns s) (s .args .text .now) _ (sym (ap writingOf (c .enum-told .given .1)) ∙ within-is (c .before .before))
+
 measure-requires : tie.Need-measure-requires
 measure-requires c κs = search needs
+
+both-within-requires : tie.Need-both-within-requires
+both-within-requires c κs = search needs
 
 enum-known-refusal : tie.Need-enum-known-refusal
 enum-known-refusal c = search needs
 
-enum-known-length : tie.Need-enum-known-length
-enum-known-length c = search needs
+enum-told : tie.Need-enum-told
+enum-told c = search needs
+
+put-table-requires : tie.Need-put-table-requires
+put-table-requires c κs = let a = c .before .before .before .before .before .before .before .before .before .args in
+    let f = fit (c .before) in
+    (measured-columns _ 3 (a .accounts .now) (a .accounts .now) (a .accounts .now) (a .accounts .now) (a .counts .now) _ (series-unwritten false (a .accounts .now) (a .accounts .now) (λ _. refl)) (f .first), omega (arith, f .fits))
 
 returns : tie.Need-returns
 unfolding tableInto
-returns c = let a = c .before .before .before .before .before .before .before .before .before .args in lines-short (a .names .now) _ _ (measured _ _ _ (sym (ap writingOf (c .before .before .length .given .1)) ∙ c .before .before .before .before .measure .ensures)) (a .text .now) (c .if1 .taken)
-
-put-lines-requires : tie.Need-put-lines-requires
-put-lines-requires c κs = let a = c .before .before .before .before .before .before .before .before .before .before .args in let known = sym (ap writingOf (c .before .before .before .length .given .1)) ∙ c .before .before .before .before .before .measure .ensures in let bytes = measured _ _ _ known .bytes in (measured-columns (a .names .now) false (a .accounts .now) (a .accounts .now) (a .counts .now) _ (λ e. refl) known, omega (arith, bytes, length-append (a .names .now) (writeRows (rowsOf (columnsBy false (a .accounts .now) (a .accounts .now) (a .counts .now)))), c .before .if1 .left))
-
-returns-2 : tie.Need-returns-2
-unfolding tableInto linesInto
-returns-2 c = let a = c .before .before .before .before .before .before .before .before .args in leaves-refused (a .names .now) _ _ (a .text .now) _ (sym (ap writingOf (c .before .refusal .given .1)) ∙ c .before .before .before .measure .ensures)
+returns c = let s = c .before .before .before .before .before .before .before .before .before in table-refused (s .args .names .now) (columns s) (s .args .text .now) _ (sym (ap writingOf (c .before .refusal .given .1)) ∙ within-is (c .before .before .before))
 
 same-length : tie.Need-same-length
 same-length c = search needs
 
-returns-3 : tie.Need-returns-3
+returns-2 : tie.Need-returns-2
 unfolding tableInto
-returns-3 c = let a = c .before .before .before .before .before .before .before .before .before .before .before .before .before .args in lines-put (a .names .now) _ _ (measured _ _ _ (sym (ap writingOf (c .before .before .before .before .before .before .length .given .1)) ∙ c .before .before .before .before .before .before .before .before .measure .ensures)) (a .text .now) (c .before .before .before .before .if1 .left) _ _ (c .before .before .put-lines .ensures)
+returns-2 c = let s = c .before .before .before .before .before .before .before .before .before .before .before .before in table-put (s .args .names .now) (columns s) (s .args .text .now) _ _ (fit (c .before .before .before .before)) (c .before .before .put-table .ensures)
 
 pub write-table-spec : {M : Type 1} → statement M
 write-table-spec =
     tie.close
     (tie.spec
     measure-requires
+    both-within-requires
     enum-known-refusal
-    enum-known-length
+    enum-told
+    put-table-requires
     returns
-    put-lines-requires
-    returns-2
     same-length
-    returns-3)
+    returns-2)

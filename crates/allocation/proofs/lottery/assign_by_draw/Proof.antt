@@ -12,10 +12,10 @@ slice-write-amounts : tie.Need-slice-write-amounts
 slice-write-amounts c = search needs
 
 starting-place-requires : tie.Need-starting-place-requires
-starting-place-requires c κs = place-requires _ _ _ _ _ (c .before .before .before .before .before .before .pre) (c .before .if1 .left) (c .if2 .left)
+starting-place-requires c κs = place-requires _ _ _ _ _ _ (c .before .before .before .before .before .before .pre) (c .before .if1 .left) (c .if2 .left)
 
 assign-requires : tie.Need-assign-requires
-assign-requires c κs = run-requires _ _ _ _ _ (c .before .before .before .before .before .before .before .before .pre) (c .before .before .before .if1 .left) (c .before .before .if2 .left) _ (c .before .starting-place .ensures)
+assign-requires c κs = run-requires _ _ _ _ _ _ (c .before .before .before .before .before .before .before .before .pre) (c .before .before .before .if1 .left) (c .before .before .if2 .left) _ (c .before .starting-place .ensures)
 
 same-length : tie.Need-same-length
 same-length c = search needs
@@ -26,7 +26,7 @@ returns c =
     let part = c .before .before .before .before .before .before .if1 .left in
     let more = c .before .before .before .before .before .if2 .left in
     let place = c .before .before .before .before .starting-place .ensures in
-    (place-start _ _ _ _ _ call part more _ place, place-amounts _ _ _ _ _ call part more _ place _ (c .before .before .assign .ensures))
+    (place-start _ _ _ _ _ _ call part more _ place, place-amounts _ _ _ _ _ _ call part more _ place _ (c .before .before .assign .ensures))
 
 same-length-2 : tie.Need-same-length-2
 same-length-2 c = search needs
@@ -35,7 +35,7 @@ returns-2 : tie.Need-returns-2
 returns-2 c =
     let call = c .before .before .before .before .before .before .before .before .before .pre in
     let whole = c .before .before .before .before .if1 .taken in
-    (whole-start _ _ _ _ _ call whole, c .before .before .copy .ensures ∙ whole-amounts _ _ _ _ _ call whole)
+    (whole-start _ _ _ _ _ _ call whole, c .before .before .copy .ensures ∙ whole-amounts _ _ _ _ _ _ call whole)
 
 same-length-3 : tie.Need-same-length-3
 same-length-3 c = search needs
@@ -45,7 +45,7 @@ returns-3 c =
     let call = c .before .before .before .before .before .before .pre in
     let part = c .before .if1 .left in
     let one = c .if2 .taken in
-    (one-start _ _ _ _ _ call part one, one-amounts _ _ _ _ _ call part one (c .before .before .before .before .before .before .args .amounts .now) (call .sized .lengths ∙ one))
+    (one-start _ _ _ _ _ _ call part one, one-amounts _ _ _ _ _ _ call part one (c .before .before .before .before .before .before .args .amounts .now) (call .sized .lengths ∙ one))
 
 pub assign-by-draw-spec : {M : Type 1} → statement M
 assign-by-draw-spec =

@@ -1,0 +1,68 @@
+-- `print_ranges` meets its contract: the two tables that are written are what is printed.
+use mathlib.Core.Path.{ap, _∙_}
+use mathlib.Core.List.{[], _∷_, _++_}
+use lib.ListN.{length}
+use Rattle.series.specs.Ascii.{ascii}
+use Rattle.series.specs.Results.{after}
+use Rattle.series.specs.Outputs.{onto}
+use Rattle.series_text.specs.Calls.{lengthOf}
+use Rattle.text_writing.specs.Tables.{tablesInto}
+use Rattle.assignment_text.specs.Printed.{assignedLines, rangeLines}
+use Rattle.assignment_text.proofs.PrintLaws.{tables-are, allocation-printed}
+use borrow.Author.Needs.{needs}
+use Rattle.assignment_text.proofs.print_ranges.Statement.{statement}
+use Rattle.assignment_text.proofs.print_ranges.Tie as tie
+
+fill-requires : tie.Need-fill-requires
+fill-requires c κs = search needs
+
+slice-aggregate-write-tables : tie.Need-slice-aggregate-write-tables
+slice-aggregate-write-tables c = search needs
+
+slice-aggregate-write-tables-2 : tie.Need-slice-aggregate-write-tables-2
+slice-aggregate-write-tables-2 c = search needs
+
+write-tables-requires : tie.Need-write-tables-requires
+write-tables-requires c κs = search needs
+
+answer-written-requires : tie.Need-answer-written-requires
+answer-written-requires c κs = search needs
+
+same-length : tie.Need-same-length
+same-length c = search needs
+
+same-length-2 : tie.Need-same-length-2
+same-length-2 c = search needs
+
+same-length-3 : tie.Need-same-length-3
+same-length-3 c = search needs
+
+same-length-4 : tie.Need-same-length-4
+same-length-4 c = search needs
+
+same-length-5 : tie.Need-same-length-5
+same-length-5 c = search needs
+
+returns : tie.Need-returns
+unfolding ascii
+returns c = let s = c .before .before .before .before .before .before .before .before .before .before .before .before .before .before .before .before .before .before .before .before .before .before .before .before .before .before .before .before .before .before .before .before in
+    let a = s .args in
+    let written = c .before .before .before .write-tables .ensures in
+    let same = ap (λ cs. tablesInto (ascii "account,assigned\n") (a .accounts .now ∷ a .amounts .now ∷ []) (ascii "account,first,last,first2,last2\n") cs (length (a .output .now))) (c .before .before .before .before .before .before .before .before .before .before .before .before .before .before .before .before .before .before .before .fill .ensures (a .accounts .now)) ∙ tables-are (a .accounts .now) (a .shorts .now) (a .amounts .now) (length (a .output .now)) (s .pre .0) in
+    allocation-printed (assignedLines (a .accounts .now) (a .amounts .now) ++ rangeLines (a .accounts .now) (a .shorts .now)) (a .output .now) _ _ (c .answer-written .result) (c .answer-written .ensures) (written .0 ∙ ap lengthOf same) (written .1 ∙ ap (λ w. after w (λ t. onto t (a .output .now)) (a .output .now)) same)
+
+pub print-ranges-spec : {M : Type 1} → statement M
+print-ranges-spec =
+    tie.close
+    (tie.spec
+    fill-requires
+    slice-aggregate-write-tables
+    slice-aggregate-write-tables-2
+    write-tables-requires
+    answer-written-requires
+    same-length
+    same-length-2
+    same-length-3
+    same-length-4
+    same-length-5
+    returns)

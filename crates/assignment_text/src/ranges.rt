@@ -1,0 +1,57 @@
+// The ranges of a list's positions, in lent lists.
+ghost use mathlib.Core.Path.{_≡_};
+ghost use Prim.Native.Nat.{ℕ, _+_, _≤_, _<_};
+ghost use mathlib.Core.List.{List, [], _∷_};
+ghost use lib.ListN.{length, getD};
+ghost use Rattle.series.specs.Sums.{listed};
+ghost use Rattle.series.specs.Places.{total as totalOf};
+ghost use Rattle.series.specs.Series.{MOST_CONTRACTS};
+ghost use Rattle.series.specs.RemainderDraw.{firstRange};
+ghost use Rattle.assignment_text.specs.Printed.{rangeColumns};
+ghost use Rattle.assignment_text.specs.Lists.{RangeLists};
+
+// Fills in the first range of each position, and hands back T.
+fn fill_first(shorts: &[u32], firsts: &mut [u32], lasts: &mut [u32]) -> u32
+    requires { ⌜ (length (now firsts) ≡ length (now shorts)) × (length (now lasts) ≡ length (now shorts)) × (totalOf (now shorts) ≤ MOST_CONTRACTS) ⌝ }
+    ensures { λ r. ⌜ r ≡ totalOf (now (shorts .entry)) ⌝ }
+    ensures { λ _. ⌜ now (firsts .exit) ≡ listed (λ i. firstRange (now (shorts .entry)) i .first) (length (now (shorts .entry))) ⌝ }
+    ensures { λ _. ⌜ now (lasts .exit) ≡ listed (λ i. firstRange (now (shorts .entry)) i .last) (length (now (shorts .entry))) ⌝ }
+{
+    let mut passed = 0;
+    let mut i = 0;
+    while i < shorts.len() {
+        firsts[i] = passed + 1;
+        passed += shorts[i];
+        lasts[i] = passed;
+        i += 1;
+    }
+    passed
+}
+
+// Fills in numbers of the second range: those of the first, each plus T.
+fn fill_second(numbers: &[u32], total: u32, raised: &mut [u32])
+    requires { ⌜ (length (now raised) ≡ length (now numbers)) × (total ≤ MOST_CONTRACTS) × ((i : ℕ) → i < length (now numbers) → getD (now numbers) i 0 ≤ total + 1) ⌝ }
+    ensures { λ _. ⌜ now (raised .exit) ≡ listed (λ i. getD (now (numbers .entry)) i 0 + total) (length (now (numbers .entry))) ⌝ }
+{
+    let mut i = 0;
+    while i < numbers.len() {
+        raised[i] = numbers[i] + total;
+        i += 1;
+    }
+}
+
+// Fills in both ranges of each position: with the accounts they are the columns that are printed.
+pub fn fill(
+    shorts: &[u32],
+    firsts: &mut [u32],
+    lasts: &mut [u32],
+    firsts2: &mut [u32],
+    lasts2: &mut [u32],
+)
+    requires { ⌜ RangeLists (now shorts) (now firsts) (now lasts) (now firsts2) (now lasts2) ⌝ }
+    ensures { λ _. ⌜ ((accounts : List ℕ) → accounts ∷ now (firsts .exit) ∷ now (lasts .exit) ∷ now (firsts2 .exit) ∷ now (lasts2 .exit) ∷ [] ≡ rangeColumns accounts (now (shorts .entry))) ⌝ }
+{
+    let total = fill_first(shorts, firsts, lasts);
+    fill_second(firsts, total, firsts2);
+    fill_second(lasts, total, lasts2);
+}
