@@ -94,7 +94,7 @@ fn print_ranges(
     answer_written(writing)
 }
 
-// Prints the amounts of an allocation and the ranges.
+// Prints the amounts of an allocation and the ranges, made in lists of its own.
 fn print_with_ranges(
     accounts: &[u32],
     shorts: &[u32],
@@ -158,7 +158,7 @@ fn assign(
     refuse(refusal, output)
 }
 
-// Prints what a text leads to: the amounts of its series, or a refusal. An output that is too short keeps its bytes, and bytes past what is printed are kept.
+// Prints what a text leads to: the amounts of its series, for R with the ranges, or a refusal. An output that is too short keeps its bytes, and bytes past what is printed are kept.
 pub fn respond(text: &[u8], output: &mut [u8]) -> Response
     ensures { λ r. ⌜ Responds r (printed (now (text .entry))) (status (textOrRefusal (now (text .entry)))) (now (output .entry)) (now (output .exit)) ⌝ }
 {

@@ -1,4 +1,5 @@
 // The ranges of a list's positions, in lent lists.
+use series::Contracts;
 ghost use mathlib.Core.Path.{_≡_};
 ghost use Prim.Native.Nat.{ℕ, _+_, _≤_, _<_};
 ghost use mathlib.Core.List.{List, [], _∷_};
@@ -11,9 +12,9 @@ ghost use Rattle.assignment_text.specs.Printed.{rangeColumns};
 ghost use Rattle.assignment_text.specs.Lists.{RangeLists};
 
 // Fills in the first range of each position, and hands back T.
-fn fill_first(shorts: &[u32], firsts: &mut [u32], lasts: &mut [u32]) -> u32
+fn fill_first(shorts: &[u32], firsts: &mut [u32], lasts: &mut [u32]) -> Contracts
     requires { ⌜ (length (now firsts) ≡ length (now shorts)) × (length (now lasts) ≡ length (now shorts)) × (totalOf (now shorts) ≤ MOST_CONTRACTS) ⌝ }
-    ensures { λ r. ⌜ r ≡ totalOf (now (shorts .entry)) ⌝ }
+    ensures { λ r. ⌜ r .0 ≡ totalOf (now (shorts .entry)) ⌝ }
     ensures { λ _. ⌜ now (firsts .exit) ≡ listed (λ i. firstRange (now (shorts .entry)) i .first) (length (now (shorts .entry))) ⌝ }
     ensures { λ _. ⌜ now (lasts .exit) ≡ listed (λ i. firstRange (now (shorts .entry)) i .last) (length (now (shorts .entry))) ⌝ }
 {
@@ -25,17 +26,17 @@ fn fill_first(shorts: &[u32], firsts: &mut [u32], lasts: &mut [u32]) -> u32
         lasts[i] = passed;
         i += 1;
     }
-    passed
+    Contracts(passed)
 }
 
 // Fills in numbers of the second range: those of the first, each plus T.
-fn fill_second(numbers: &[u32], total: u32, raised: &mut [u32])
-    requires { ⌜ (length (now raised) ≡ length (now numbers)) × (total ≤ MOST_CONTRACTS) × ((i : ℕ) → i < length (now numbers) → getD (now numbers) i 0 ≤ total + 1) ⌝ }
-    ensures { λ _. ⌜ now (raised .exit) ≡ listed (λ i. getD (now (numbers .entry)) i 0 + total) (length (now (numbers .entry))) ⌝ }
+fn fill_second(numbers: &[u32], total: Contracts, raised: &mut [u32])
+    requires { ⌜ (length (now raised) ≡ length (now numbers)) × (total .0 ≤ MOST_CONTRACTS) × ((i : ℕ) → i < length (now numbers) → getD (now numbers) i 0 ≤ total .0 + 1) ⌝ }
+    ensures { λ _. ⌜ now (raised .exit) ≡ listed (λ i. getD (now (numbers .entry)) i 0 + total .0) (length (now (numbers .entry))) ⌝ }
 {
     let mut i = 0;
     while i < numbers.len() {
-        raised[i] = numbers[i] + total;
+        raised[i] = numbers[i] + total.0;
         i += 1;
     }
 }
