@@ -7,7 +7,6 @@ use native.Mathlib.Nat.{le-refl}
 use lib.ListN.{length, getD, set}
 use Rattle.series.specs.Sums.{listed}
 use Rattle.series.specs.Places.{total, before, last}
-use Rattle.series.specs.Series.{MOST_CONTRACTS}
 use Rattle.series.specs.RemainderDraw.{firstRange, secondRange}
 use Rattle.assignment_text.specs.Printed.{rangeColumns}
 use Rattle.series.proofs.ListLaws.{filled, fill-none, fill-more, fill-length, fill-all}

@@ -16,7 +16,7 @@ use Rattle.series.specs.Results.{Result, refused, value, _>>=_, refuse, after, 
 use Rattle.series.specs.Outputs.{onto, ontoRoom}
 use Rattle.series.specs.Sums.{listed}
 use Rattle.series.specs.Places.{total}
-use Rattle.series.specs.Series.{Series, MOST_CONTRACTS, method, held}
+use Rattle.series.specs.Series.{Series, MOST_CONTRACTS, method}
 use Rattle.series.specs.RemainderDraw.{firstRange, secondRange}
 use Rattle.series.specs.Answers.{Allocation, numberOf, answerOf}
 use Rattle.series.specs.Refusals.{verdict}

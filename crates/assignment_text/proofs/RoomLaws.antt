@@ -21,7 +21,6 @@ use Rattle.series.proofs.RangeLaws.{ranges-within}
 use Rattle.series.proofs.SumLaws.{getD-listed}
 use Rattle.series.proofs.ResultLaws.{stepped, value-is}
 use Rattle.series_text.specs.Fields.{Text}
-use Rattle.series_text.specs.Numbers.{decimal}
 use Rattle.series_text.specs.Rows.{writeRow, writeRows, rowOf, rowsOf}
 use Rattle.series_text.specs.Text.{MOST_LINES, readText}
 use Rattle.series_text.specs.Calls.{lineCount}

@@ -9,8 +9,8 @@ use lib.ListN.{length}
 use borrow.Author.Tests.{ltb-false, eqb-false, eqb-true, not-false}
 use Rattle.series.specs.Results.{value}
 use Rattle.series.specs.Places.{total}
-use Rattle.series.specs.Series.{Series, MOST_POSITIONS, MOST_CONTRACTS, method, exercised, held, redrawn, byMethod, order}
-use Rattle.series.specs.Refusals.{Row, _⟶_∣_, NoneApplies, leftAside, aside, lengthRows, roomRows, positionRows, exercisedRows, outside, undrawn, drawRows, thenDrawRows, listRows, rows, Accepted, verdict}
+use Rattle.series.specs.Series.{Series, MOST_POSITIONS, MOST_CONTRACTS, method, exercised, held, redrawn, order}
+use Rattle.series.specs.Refusals.{Row, NoneApplies, leftAside, aside, lengthRows, roomRows, positionRows, exercisedRows, undrawn, drawRows, thenDrawRows, listRows, rows, Accepted, verdict}
 use Rattle.series.specs.declared.Method.{Method}
 use Rattle.series.specs.declared.Terms.{Terms}
 use Rattle.series.proofs.RowLaws.{value-passed, passed-append}
@@ -52,13 +52,13 @@ aside-positions m earlier before sum (k ∷ ks) (a ∷ rest) (h ∷ hs) = rw (as
 
 aside-draw : (t : Terms) (T : ℕ) → aside (drawRows t T) ≡ []
 unfolding drawRows aside leftAside
-aside-draw t T = by-cases (t .method)
+aside-draw t T = by-cases (t .method) refl
   where
-    by-cases : (m : Method) → aside (byMethod m (outside T (t .draw) ⟶ 10 ∣ []) [] (outside 10000 (t .draw) ⟶ 10 ∣ []) []) ≡ []
-    by-cases Method.Wheel = refl
-    by-cases Method.ProRata = refl
-    by-cases Method.Lottery = refl
-    by-cases Method.RemainderDraw = refl
+    by-cases : (m : Method) → t .method ≡ m → aside (drawRows t T) ≡ []
+    by-cases Method.Wheel e = rw e refl
+    by-cases Method.ProRata e = rw e refl
+    by-cases Method.Lottery e = rw e refl
+    by-cases Method.RemainderDraw e = rw e refl
 
 aside-then-draw : (t : Terms) (T n : ℕ) → aside (thenDrawRows t T n) ≡ []
 unfolding thenDrawRows aside

@@ -9,7 +9,7 @@ use Rattle.series.specs.Results.{Result, refused, value, _>>=_}
 use Rattle.series.specs.Series.{Series, method, exercised, draw, held, byMethod, order}
 use Rattle.series.specs.Wheel.{wheel}
 use Rattle.series.specs.ProRata.{proRata}
-use Rattle.series.specs.Lottery.{startingPlace, lottery, lotteryAmounts}
+use Rattle.series.specs.Lottery.{startingPlace, lottery}
 use Rattle.series.specs.RemainderDraw.{remainderPlace}
 use Rattle.series.specs.Refusals.{Row, _⟶_∣_, first, NoneApplies, lengthRows, roomRows, positionRows, exercisedRows, outside, undrawn, drawRows, thenDrawRows, listRows, rows, verdict}
 use Rattle.series.specs.Call.{INCREMENT, assigned}
@@ -126,13 +126,13 @@ row-ten false T n h = absurd (never n T (sym h))
 
 draw-ten : (t : Terms) (T T′ n : ℕ) → first (drawRows t T) T′ ≡ refused n → n ≡ 10
 unfolding drawRows first
-draw-ten t T T′ n = by-cases (t .method)
+draw-ten t T T′ n h = by-cases (t .method) refl
   where
-    by-cases : (m : Method) → first (byMethod m (outside T (t .draw) ⟶ 10 ∣ []) [] (outside 10000 (t .draw) ⟶ 10 ∣ []) []) T′ ≡ refused n → n ≡ 10
-    by-cases Method.Wheel h = row-ten (outside T (t .draw)) T′ n h
-    by-cases Method.ProRata h = absurd (never n T′ (sym h))
-    by-cases Method.Lottery h = row-ten (outside 10000 (t .draw)) T′ n h
-    by-cases Method.RemainderDraw h = absurd (never n T′ (sym h))
+    by-cases : (m : Method) → t .method ≡ m → n ≡ 10
+    by-cases Method.Wheel e = row-ten (outside T (t .draw)) T′ n (rw e at h)
+    by-cases Method.ProRata e = absurd (never n T′ (sym (rw e at h)))
+    by-cases Method.Lottery e = row-ten (outside 10000 (t .draw)) T′ n (rw e at h)
+    by-cases Method.RemainderDraw e = absurd (never n T′ (sym (rw e at h)))
 
 -- no row has the number 10
 NoTen : List Row → Type 0
@@ -201,13 +201,11 @@ module _ (s : Series) (room : ℕ) where
       drawn : NoneApplies draws
       drawn = let step = stepped (first (above s room) (held s)) (first draws) T (sym earlier-parts ∙ h) in value-passed draws (step .from) T (step .on)
 
-      by-cases : (m : Method) → method s ≡ m → byMethod m (wheel INCREMENT (s .shorts) (exercised s) (draw s)) (proRata (s .shorts) (exercised s) (draw s)) (lotteryAmounts (s .shorts) (exercised s) (startingPlace (held s) (draw s))) (lotteryAmounts (s .shorts) (exercised s) (remainderPlace (held s) (draw s)))
-          ≡ byMethod m (wheel INCREMENT (s .shorts) (exercised s) (draw s)) (proRata (s .shorts) (exercised s) (draw s)) (lottery (s .shorts) (exercised s) (startingPlace (held s) (draw s))) (lottery (s .shorts) (exercised s) (remainderPlace (held s) (draw s)))
-      by-cases Method.Wheel e = refl
-      by-cases Method.ProRata e = refl
-      by-cases Method.Lottery e =
-          lottery-amounts (s .shorts) (exercised s) (startingPlace (held s) (draw s)) (starting-on (held s) (draw s) (facts .total-some) (lottery-draw (s .terms) (held s) e drawn))
-      by-cases Method.RemainderDraw e = lottery-amounts (s .shorts) (exercised s) (remainderPlace (held s) (draw s)) (remainder-on (held s) (draw s) (facts .total-some))
+      by-cases : (m : Method) → method s ≡ m → assigned s ≡ earlierAssigned s
+      by-cases Method.Wheel e = rw e refl
+      by-cases Method.ProRata e = rw e refl
+      by-cases Method.Lottery e = rw e (lottery-amounts (s .shorts) (exercised s) (startingPlace (held s) (draw s)) (starting-on (held s) (draw s) (facts .total-some) (lottery-draw (s .terms) (held s) e drawn)))
+      by-cases Method.RemainderDraw e = rw e (lottery-amounts (s .shorts) (exercised s) (remainderPlace (held s) (draw s)) (remainder-on (held s) (draw s) (facts .total-some)))
 
   -- a call that was refused is refused alike, 10 alone excepted
   pub still-refused : (n : ℕ) → earlierVerdict s room ≡ refused n → (n ≡ 10 → ⊥) → verdict s room ≡ refused n

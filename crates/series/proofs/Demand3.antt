@@ -9,17 +9,16 @@ use native.Mathlib.Omega.{arith}
 use native.Mathlib.Decide.{ℕ-discrete}
 use lib.ListN.{length, getD, drop}
 use lib.Seq.{take-at}
-use Rattle.series.specs.Results.{Result, refused, value, _>>=_, after}
+use Rattle.series.specs.Results.{Result, refused, value, _>>=_}
 use Rattle.series.specs.Outputs.{onto}
 use Rattle.series.specs.Sums.{sumBelow}
 use Rattle.series.specs.Places.{total, run, marked, OnWheel, overPlaces}
-use Rattle.series.specs.Series.{Series, method, exercised, draw, held, redrawn, byMethod}
+use Rattle.series.specs.Series.{Series, method, exercised, draw, held, redrawn}
 use Rattle.series.specs.Wheel.{ONE, blocks, wheelMarks, wheel}
 use Rattle.series.specs.ProRata.{proRata}
 use Rattle.series.specs.Lottery.{startingPlace, lottery, unstarted, lotteryAmounts, startUsed}
 use Rattle.series.specs.RemainderDraw.{remainderPlace}
 use Rattle.series.specs.Refusals.{verdict, Accepted}
-use Rattle.series.specs.Answers.{Allocation}
 use Rattle.series.specs.Call.{INCREMENT, assigned, further, answer, output}
 use Rattle.series.specs.Fair.{Near, Fair, FairOutput}
 use Rattle.series.specs.declared.Method.{Method}
@@ -90,13 +89,13 @@ module _ (s : Series) (room : ℕ) (ok : Accepted s room) where
 
 pub length-assigned : (s : Series) → length (assigned s) ≡ length (s .shorts)
 unfolding assigned proRata
-length-assigned s = by-cases (method s)
+length-assigned s = by-cases (method s) refl
   where
-    by-cases : (m : Method) → length (byMethod m (wheel INCREMENT (s .shorts) (exercised s) (draw s)) (proRata (s .shorts) (exercised s) (draw s)) (lotteryAmounts (s .shorts) (exercised s) (startingPlace (held s) (draw s))) (lotteryAmounts (s .shorts) (exercised s) (remainderPlace (held s) (draw s)))) ≡ length (s .shorts)
-    by-cases Method.Wheel = length-wheel INCREMENT (s .shorts) (exercised s) (draw s)
-    by-cases Method.ProRata = length-listed _ (length (s .shorts))
-    by-cases Method.Lottery = length-lottery-amounts (s .shorts) (exercised s) (startingPlace (held s) (draw s))
-    by-cases Method.RemainderDraw = length-lottery-amounts (s .shorts) (exercised s) (remainderPlace (held s) (draw s))
+    by-cases : (m : Method) → method s ≡ m → length (assigned s) ≡ length (s .shorts)
+    by-cases Method.Wheel e = rw e (length-wheel INCREMENT (s .shorts) (exercised s) (draw s))
+    by-cases Method.ProRata e = rw e (length-listed _ (length (s .shorts)))
+    by-cases Method.Lottery e = rw e (length-lottery-amounts (s .shorts) (exercised s) (startingPlace (held s) (draw s)))
+    by-cases Method.RemainderDraw e = rw e (length-lottery-amounts (s .shorts) (exercised s) (remainderPlace (held s) (draw s)))
 
 -- the amounts vs are those from a place on the wheel
 pub record FromPlace (T : ℕ) (from : ℕ → List ℕ) (vs : List ℕ) : Type 0 where
@@ -180,16 +179,20 @@ module _ (s : Series) (room T : ℕ) (v : verdict s room ≡ value T) where
   unfolding assigned
   assigned-fair = by-cases (method s) refl
     where
-      by-cases : (m : Method) → method s ≡ m → Fair s (byMethod m (wheel INCREMENT (s .shorts) (exercised s) (draw s)) (proRata (s .shorts) (exercised s) (draw s)) (lotteryAmounts (s .shorts) (exercised s) (startingPlace (held s) (draw s))) (lotteryAmounts (s .shorts) (exercised s) (remainderPlace (held s) (draw s))))
-      by-cases Method.Wheel e = fair-from (wheel INCREMENT (s .shorts) (exercised s)) _ (wheel-from e) (λ p. let z : _≡_ {A = ℕ} 0 1 = cc in omega arith) (wheel-adds-up s room ok) (wheel-at-most s room ok)
+      -- the amounts vs are those of the method
+      fair-by : (vs : List ℕ) → assigned s ≡ vs → Fair s vs → Fair s (assigned s)
+      fair-by vs is fair = rw is fair
+
+      by-cases : (m : Method) → method s ≡ m → Fair s (assigned s)
+      by-cases Method.Wheel e = fair-by _ (rw e refl) (fair-from (wheel INCREMENT (s .shorts) (exercised s)) _ (wheel-from e) (λ p. let z : _≡_ {A = ℕ} 0 1 = cc in omega arith) (wheel-adds-up s room ok) (wheel-at-most s room ok))
       by-cases Method.ProRata e =
-          record {
+          fair-by (proRata (s .shorts) (exercised s) (draw s)) (rw e refl) (record {
             adds-up = pro-rata-adds-up s room ok (draw s);
             at-most = λ i _. pro-rata-at-most s room ok (draw s) i;
             near = λ _. pro-rata-near s room ok (draw s);
-          }
-      by-cases Method.Lottery e = fair-from (lottery (s .shorts) (exercised s)) _ (lottery-from e) (λ p. let z : _≡_ {A = ℕ} 0 1 = cc in omega arith) (lottery-adds-up s room ok) (lottery-at-most s room ok)
-      by-cases Method.RemainderDraw e = fair-from (lottery (s .shorts) (exercised s)) _ remainder-from (λ p. let z : _≡_ {A = ℕ} 0 1 = cc in omega arith) (lottery-adds-up s room ok) (lottery-at-most s room ok)
+          })
+      by-cases Method.Lottery e = fair-by _ (rw e refl) (fair-from (lottery (s .shorts) (exercised s)) _ (lottery-from e) (λ p. let z : _≡_ {A = ℕ} 0 1 = cc in omega arith) (lottery-adds-up s room ok) (lottery-at-most s room ok))
+      by-cases Method.RemainderDraw e = fair-by _ (rw e refl) (fair-from (lottery (s .shorts) (exercised s)) _ remainder-from (λ p. let z : _≡_ {A = ℕ} 0 1 = cc in omega arith) (lottery-adds-up s room ok) (lottery-at-most s room ok))
 
 -- R: summed over the draws 0 to T - 1, the amounts of the calls are a position's shorts times S.
 pub remainder-shares : (s : Series) (room : ℕ) → Accepted s room → method s ≡ Method.RemainderDraw → (i : ℕ) → i < length (s .shorts) → sumBelow (λ d. getD (assigned (redrawn d s)) i 0) (held s) ≡ getD (s .shorts) i 0 * exercised s

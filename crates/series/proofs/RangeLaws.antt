@@ -7,7 +7,7 @@ use native.Mathlib.Nat.{le-refl}
 use lib.ListN.{length, getD}
 use borrow.Author.Tests.{lt-ltb, le-leb}
 use Rattle.series.specs.Places.{total, within, steps, before, last, OnWheel, Belongs}
-use Rattle.series.specs.RemainderDraw.{Range, InRange, firstRange, secondRange}
+use Rattle.series.specs.RemainderDraw.{InRange, firstRange, secondRange}
 use Rattle.series.proofs.PlaceLaws.{before-zero, before-suc, before-all, before-mono, steps-plain, steps-past}
 use Rattle.series.proofs.OnePosition.{above-before, up-to-last}
 
