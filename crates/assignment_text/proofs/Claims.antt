@@ -10,12 +10,12 @@ use Rattle.series.specs.Lottery.{startingPlace, lottery, unstarted, lotteryAmou
 use Rattle.series.specs.RemainderDraw.{remainderPlace, firstRange, secondRange}
 use Rattle.series.specs.Refusals.{first, lengthRows, roomRows, standsIn, accountRefused, positionRows, exercisedRows, outside, undrawn, drawRows, thenDrawRows, listRows, rows, verdict}
 use Rattle.series.specs.Call.{assigned}
-use Rattle.series_text.specs.Numbers.{digit, digits, spelled, amountFrom, amount, numeral, number, decimalIn, decimal}
-use Rattle.series_text.specs.Fields.{Text, ends, field, past, fieldBy, endBefore, readFields, writeNumber}
-use Rattle.series_text.specs.Rows.{numbers, readRow, readRows, writeRow, writeRows, rowsOf, column}
-use Rattle.series_text.specs.Names.{namesLine, afterLine, headingOr, readNames}
-use Rattle.series_text.specs.Letters.{letter, methodAmong, methodBy, methodOf}
-use Rattle.series_text.specs.Text.{readTerms, readHead, readPositions, readText}
+use Rattle.text_rules.specs.Numbers.{digit, digits, spelled, amountFrom, amount, numeral, number, decimalIn, decimal}
+use Rattle.text_rules.specs.Fields.{Text, ends, field, past, fieldBy, endBefore, readFields, writeNumber}
+use Rattle.text_rules.specs.Rows.{numbers, readRow, readRows, writeRow, writeRows, rowsOf, column}
+use Rattle.text_rules.specs.Names.{namesLine, afterLine, headingOr, readNames}
+use Rattle.text_rules.specs.Letters.{letter, methodAmong, methodBy, methodOf}
+use Rattle.text_rules.specs.Text.{readTerms, readHead, readPositions, readText}
 use Rattle.assignment_text.specs.Printed.{refusedLines, assignedLines, rangeColumns, rangeLines, rangesBy, seriesOrRefusal, textOrRefusal, linesFor, printed}
 
 -- a text, and what is printed for it

@@ -30,12 +30,12 @@ use Rattle.series.proofs.ResultLaws.{never, value-is}
 use Rattle.series.proofs.SumLaws.{length-listed}
 use Rattle.series.proofs.AcceptedLaws.{accepted-facts, verdict-accepted}
 use Rattle.series.proofs.Demand3.{length-assigned}
-use Rattle.series_text.specs.Fields.{Text}
-use Rattle.series_text.specs.Rows.{writeRows, rowsOf}
-use Rattle.series_text.specs.Text.{MOST_LINES, readText}
+use Rattle.text_rules.specs.Fields.{Text}
+use Rattle.text_rules.specs.Rows.{writeRows, rowsOf}
+use Rattle.text_rules.specs.Text.{MOST_LINES, readText}
 use Rattle.text_writing.specs.Answers.{writingOf}
 use Rattle.text_writing.specs.Tables.{tablesInto}
-use Rattle.series_text.specs.Calls.{lengthOf, evenly, lineCount, headAndLines, linesInto, tableInto, noteInto}
+use Rattle.text_rules.specs.Calls.{lengthOf, evenly, lineCount, headAndLines, linesInto, tableInto, noteInto}
 use Rattle.text_writing.specs.declared.Writing.{Writing}
 use Rattle.assignment_text.specs.Printed.{refusedLines, assignedLines, rangeColumns, rangeLines, rangesBy, seriesOrRefusal, textOrRefusal, linesFor, printed}
 use Rattle.assignment_text.specs.Responses.{Printing, responseOf, writtenHands, printInto, Responds}

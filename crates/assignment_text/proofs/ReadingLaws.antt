@@ -11,11 +11,11 @@ use Rattle.series.specs.Outputs.{onto}
 use Rattle.series.specs.Series.{Series}
 use Rattle.series.specs.declared.Terms.{Terms}
 use Rattle.series.proofs.ResultLaws.{never, value-is}
-use Rattle.series_text.specs.Fields.{Text}
-use Rattle.series_text.specs.Text.{MOST_LINES, readText}
-use Rattle.series_text.specs.Parts.{Columns}
-use Rattle.series_text.specs.Calls.{Handed, readInto, handed}
-use Rattle.series_text.proofs.ShortestText.{text-is}
+use Rattle.text_rules.specs.Fields.{Text}
+use Rattle.text_rules.specs.Text.{MOST_LINES, readText}
+use Rattle.text_rules.specs.Lists.{Columns}
+use Rattle.text_rules.specs.Calls.{Handed, readInto, handed}
+use Rattle.text_rules.proofs.ShortestText.{text-is}
 
 -- the lists of a series that was read: of one length, and at most 1,024 positions
 pub few-positions : (s : Text) (t : Series) → readText s ≡ value t → Columns (t .codes) (t .accounts) (t .shorts)

@@ -20,13 +20,13 @@ use Rattle.series.proofs.AcceptedLaws.{accepted-facts, verdict-accepted}
 use Rattle.series.proofs.RangeLaws.{ranges-within}
 use Rattle.series.proofs.SumLaws.{getD-listed}
 use Rattle.series.proofs.ResultLaws.{stepped, value-is}
-use Rattle.series_text.specs.Fields.{Text}
-use Rattle.series_text.specs.Rows.{writeRow, writeRows, rowOf, rowsOf}
-use Rattle.series_text.specs.Text.{MOST_LINES, readText}
-use Rattle.series_text.specs.Calls.{lineCount}
-use Rattle.series_text.proofs.DecimalLaws.{digits-few, digits-within}
-use Rattle.series_text.proofs.RowLaws.{row-few}
-use Rattle.series_text.proofs.LengthLaws.{length-row, lines-most, rows-room}
+use Rattle.text_rules.specs.Fields.{Text}
+use Rattle.text_rules.specs.Rows.{writeRow, writeRows, rowOf, rowsOf}
+use Rattle.text_rules.specs.Text.{MOST_LINES, readText}
+use Rattle.text_rules.specs.Calls.{lineCount}
+use Rattle.text_rules.proofs.DecimalLaws.{digits-few, digits-within}
+use Rattle.text_rules.proofs.RowLaws.{row-few}
+use Rattle.text_rules.proofs.LengthLaws.{length-row, lines-most, rows-room}
 use Rattle.assignment_text.specs.Printed.{refusedLines, assignedLines, rangeColumns, rangeLines, rangesBy, seriesOrRefusal, textOrRefusal, linesFor, printed, MOST_PRINTED}
 use Rattle.assignment_text.specs.Responses.{Printing, responseOf, printInto, Responds, Whole}
 use Rattle.assignment_text.specs.declared.Response.{Response}

@@ -6,10 +6,10 @@ use mathlib.Core.List.{List}
 use lib.ListN.{length}
 use Rattle.series.specs.Results.{value}
 use Rattle.series.specs.Series.{Series}
-use Rattle.series_text.specs.Fields.{Text}
-use Rattle.series_text.specs.Text.{MOST_BYTES, readText, writeText}
-use Rattle.series_text.proofs.RoundTrip.{spelledText, TextSpells, any-spelling}
-use Rattle.series_text.proofs.ShortestText.{read-again}
+use Rattle.text_rules.specs.Fields.{Text}
+use Rattle.text_rules.specs.Text.{MOST_BYTES, readText, writeText}
+use Rattle.text_rules.proofs.RoundTrip.{spelledText, TextSpells, any-spelling}
+use Rattle.text_rules.proofs.ShortestText.{read-again}
 use Rattle.assignment_text.specs.Printed.{seriesOrRefusal, textOrRefusal, linesFor, printed}
 
 -- a text that reads as a series

@@ -5,7 +5,7 @@ use mathlib.Core.List.{List}
 use lib.ListN.{length}
 use Rattle.series.specs.Places.{total}
 use Rattle.series.specs.Series.{MOST_CONTRACTS}
-use Rattle.series_text.specs.Text.{MOST_LINES}
+use Rattle.text_rules.specs.Text.{MOST_LINES}
 
 -- three lists of one length, of at most 1,024 numbers
 pub record Lists (accounts shorts amounts : List ℕ) : Type 0 where

@@ -10,9 +10,9 @@ use Rattle.series.specs.RemainderDraw.{firstRange, secondRange}
 use Rattle.series.specs.Refusals.{verdict}
 use Rattle.series.specs.Call.{assigned}
 use Rattle.series.specs.declared.Method.{Method}
-use Rattle.series_text.specs.Fields.{Text}
-use Rattle.series_text.specs.Rows.{writeRow, writeRows, rowsOf}
-use Rattle.series_text.specs.Text.{readText}
+use Rattle.text_rules.specs.Fields.{Text}
+use Rattle.text_rules.specs.Rows.{writeRow, writeRows, rowsOf}
+use Rattle.text_rules.specs.Text.{readText}
 
 -- for a refusal the line `refused` and a line with the number
 unfoldable pub refusedLines : ℕ → Text

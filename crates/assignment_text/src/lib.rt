@@ -9,7 +9,7 @@ ghost use Rattle.series.specs.Answers.{numberOf};
 ghost use Rattle.series.specs.Results.{status};
 ghost use Rattle.series.specs.Places.{total as totalOf};
 ghost use Rattle.series.specs.Series.{MOST_CONTRACTS};
-ghost use Rattle.series_text.specs.Text.{MOST_LINES};
+ghost use Rattle.text_rules.specs.Text.{MOST_LINES};
 ghost use Rattle.text_writing.specs.Answers.{writingOf};
 ghost use Rattle.assignment_text.specs.Printed.{refusedLines, assignedLines, rangeLines, rangesBy, seriesOrRefusal, textOrRefusal, linesFor, printed};
 ghost use Rattle.assignment_text.specs.Responses.{responseOf, writtenHands, Responds};

@@ -13,9 +13,9 @@ use Rattle.series.specs.Answers.{Allocation, handedBack}
 use Rattle.series.specs.Call.{answer, output}
 use Rattle.series.specs.declared.Method.{Method}
 use Rattle.series.specs.declared.Terms.{Terms}
-use Rattle.series_text.specs.Fields.{Text}
-use Rattle.series_text.specs.Letters.{letter, methodBy}
-use Rattle.series_text.specs.Calls.{Handed, handed, writeInto, lengthOf}
+use Rattle.text_rules.specs.Fields.{Text}
+use Rattle.text_rules.specs.Letters.{letter, methodBy}
+use Rattle.text_rules.specs.Calls.{Handed, handed, writeInto, lengthOf}
 use Rattle.assignment_text.specs.Printed.{printed}
 use Rattle.assignment_text.specs.Responses.{Printing, responseOf, printInto, Responds}
 use Rattle.assignment_text.specs.declared.Response.{Response}

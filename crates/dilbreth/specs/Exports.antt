@@ -9,9 +9,9 @@ use Rattle.series.specs.Outputs.{onto}
 use Rattle.series.specs.Series.{Series, method, exercised, draw}
 use Rattle.series.specs.Answers.{Allocation, handedBack}
 use Rattle.series.specs.Call.{answer, output}
-use Rattle.series_text.specs.Fields.{Text}
-use Rattle.series_text.specs.Letters.{letter, methodBy}
-use Rattle.series_text.specs.Calls.{writeInto}
+use Rattle.text_rules.specs.Fields.{Text}
+use Rattle.text_rules.specs.Letters.{letter, methodBy}
+use Rattle.text_rules.specs.Calls.{writeInto}
 use Rattle.assignment_text.specs.Printed.{printed}
 use Rattle.dilbreth.specs.declared.Numbers.{Numbers}
 

@@ -15,7 +15,7 @@ ghost use lib.ListN.{length};
 ghost use Rattle.series.specs.Results.{value, after};
 ghost use Rattle.series.specs.Answers.{answerOf};
 ghost use Rattle.series.specs.Outputs.{onto};
-ghost use Rattle.series_text.specs.Calls.{readInto};
+ghost use Rattle.text_rules.specs.Calls.{readInto};
 ghost use Rattle.dilbreth.specs.Exports.{seriesBy, numbersMean, handedNumbers, Allocates, Reads, writtenBy, printedInto, Writes};
 
 // The values of a series, from numbers.

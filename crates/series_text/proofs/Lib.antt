@@ -1,14 +1,4 @@
--- The text of a series: what is proved of the definitions (RoundTrip, ShortestText, SpellingLaws, Claims), and the laws that the functions' proofs cite.
-pub mod RoundTrip
-pub mod ShortestText
-pub mod Claims
-pub mod RowLaws
-pub mod ColumnLaws
+-- Writing and then reading, by the two calls, and the laws that the functions' proofs cite.
+pub mod CallsRoundTrip
 pub mod FieldLaws
-pub mod NumberLaws
-pub mod SpellingLaws
-pub mod DecimalLaws
-pub mod CopyLaws
 pub mod LineLaws
-pub mod ReadLaws
-pub mod LengthLaws

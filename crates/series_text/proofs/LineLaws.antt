@@ -15,17 +15,17 @@ use Rattle.series.specs.Results.{Result, refused, value, _>>=_}
 use Rattle.series.specs.declared.Method.{Method}
 use Rattle.series.specs.declared.Terms.{Terms}
 use Rattle.series.proofs.ResultLaws.{never}
-use Rattle.series_text.specs.Numbers.{number}
-use Rattle.series_text.specs.Fields.{Text, COMMA, NEWLINE, Read, field, past, fieldBy, endBefore, readFields}
-use Rattle.series_text.specs.Rows.{numbers, readRow, readRows, rowsOf, column}
-use Rattle.series_text.specs.Names.{line1, line3, coded, namesLine, afterLine, headingOr, readNames}
-use Rattle.series_text.specs.Letters.{methodBy, methodOf}
-use Rattle.series_text.specs.Text.{MOST_BYTES, MOST_LINES, lineWidth, seriesOf, readTerms, readHead, readPositions}
+use Rattle.text_rules.specs.Numbers.{number}
+use Rattle.text_rules.specs.Fields.{Text, COMMA, NEWLINE, Read, field, past, fieldBy, endBefore, readFields}
+use Rattle.text_rules.specs.Rows.{numbers, readRow, readRows, rowsOf, column}
+use Rattle.text_rules.specs.Names.{line1, line3, coded, namesLine, afterLine, headingOr, readNames}
+use Rattle.text_rules.specs.Letters.{methodBy, methodOf}
+use Rattle.text_rules.specs.Text.{MOST_BYTES, MOST_LINES, lineWidth, seriesOf, readTerms, readHead, readPositions}
 use Rattle.series_text.specs.Parts.{numberBy, foundMeans, foundWithin, rowMeans, foundFields, withCode, readPosition}
-use Rattle.series_text.proofs.RowLaws.{rows-none}
-use Rattle.series_text.proofs.ColumnLaws.{column-rows}
+use Rattle.text_rules.proofs.RowLaws.{rows-none}
+use Rattle.text_rules.proofs.ColumnLaws.{column-rows}
 use Rattle.series_text.specs.declared.field.Found.{Found}
-use Rattle.series_text.specs.declared.names.Heading.{Heading}
+use Rattle.text_rules.specs.declared.Heading.{Heading}
 use Rattle.series_text.specs.declared.row.RowEnd.{RowEnd}
 use Rattle.series_text.proofs.FieldLaws.{drop-more, numbered, numberBy-numbered}
 

@@ -1,9 +1,3 @@
--- The text of a series as definitions on lists of bytes: a number, a field, a row of numbers, the names lines, the letters of the methods, the text, the calls.
-pub mod Numbers
-pub mod Fields
-pub mod Rows
-pub mod Names
-pub mod Letters
-pub mod Text
-pub mod Calls
+-- What reading answers, and what the functions under it answer.
+pub mod Answers
 pub mod Parts

@@ -10,15 +10,15 @@ use Rattle.series.specs.Answers.{numberOf}
 use Rattle.series.specs.Series.{Series}
 use Rattle.series.specs.declared.Method.{Method}
 use Rattle.series.specs.declared.Terms.{Terms}
-use Rattle.series_text.specs.Numbers.{number}
-use Rattle.series_text.specs.Fields.{Text, COMMA, Read, fieldBy}
-use Rattle.series_text.specs.Rows.{readRow}
-use Rattle.series_text.specs.Text.{MOST_LINES, Head, lineWidth}
+use Rattle.text_rules.specs.Numbers.{number}
+use Rattle.text_rules.specs.Fields.{Text, COMMA, Read, fieldBy}
+use Rattle.text_rules.specs.Rows.{readRow}
+use Rattle.text_rules.specs.Text.{MOST_LINES, Head, lineWidth}
 use Rattle.series_text.specs.declared.number.Field.{Field}
 use Rattle.series_text.specs.declared.field.Line.{Line}
 use Rattle.series_text.specs.declared.field.Found.{Found}
 use Rattle.series_text.specs.declared.row.RowEnd.{RowEnd}
-use Rattle.series_text.specs.declared.names.Heading.{Heading}
+use Rattle.text_rules.specs.declared.Heading.{Heading}
 use Rattle.series_text.specs.declared.names.Names.{Names}
 use Rattle.series_text.specs.declared.letters.Named.{Named}
 use Rattle.series_text.specs.declared.lines.TermsLine.{TermsLine}
@@ -109,13 +109,3 @@ positionsMean t codes accounts shorts (Positions.Refused r) = refused (numberOf 
 abbrev pub positionsWithin : Positions → Type 0
 positionsWithin (Positions.Read n) = n ≤ MOST_LINES
 positionsWithin (Positions.Refused r) = Unit {0}
-
--- a code and a number of shorts for each account, and at most 1,024 accounts
-pub record Columns (codes′ accounts′ shorts′ : List ℕ) : Type 0 where
-  pub codes : length codes′ ≡ length accounts′
-  pub shorts : length shorts′ ≡ length accounts′
-  pub few : length accounts′ ≤ MOST_LINES
-
--- without the code column each code is its account
-abbrev pub Plain : Bool → List ℕ → List ℕ → Type 0
-Plain c codes accounts = c ≡ false → codes ≡ accounts

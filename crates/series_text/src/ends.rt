@@ -1,6 +1,6 @@
 // The byte that ends a field of a line.
 ghost use mathlib.Core.Path.{_≡_};
-ghost use Rattle.series_text.specs.Fields.{endBefore};
+ghost use Rattle.text_rules.specs.Fields.{endBefore};
 
 // The byte that ends a field, after which so many fields follow.
 pub fn end_before(fields: usize) -> u8

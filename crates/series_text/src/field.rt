@@ -1,8 +1,8 @@
 // Fields and fixed lines of a text.
 ghost use mathlib.Core.Path.{_≡_};
 ghost use lib.ListN.{length, drop};
-ghost use Rattle.series_text.specs.Fields.{ends, fieldBy};
-ghost use Rattle.series_text.specs.Names.{afterLine};
+ghost use Rattle.text_rules.specs.Fields.{ends, fieldBy};
+ghost use Rattle.text_rules.specs.Names.{afterLine};
 ghost use Rattle.series_text.specs.Parts.{lineMeans, foundMeans, foundWithin};
 
 // The index after a line, where the text has it.

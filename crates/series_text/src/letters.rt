@@ -1,7 +1,7 @@
 // The letters of the methods.
 use series::Method;
 ghost use mathlib.Core.Path.{_≡_};
-ghost use Rattle.series_text.specs.Letters.{letter, methodBy};
+ghost use Rattle.text_rules.specs.Letters.{letter, methodBy};
 ghost use Rattle.series_text.specs.Parts.{namedMeans};
 
 // The method that a letter names.

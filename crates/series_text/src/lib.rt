@@ -1,4 +1,4 @@
-// The text of a series: what it is, and reading one into three lent lists.
+// Reading the text of a series into three lent lists.
 pub mod ends;
 mod field;
 pub mod letters;
@@ -17,7 +17,8 @@ ghost use mathlib.Core.List.{_++_};
 ghost use lib.ListN.{length, take, drop};
 ghost use Rattle.series.specs.Results.{after};
 ghost use Rattle.series.specs.Outputs.{onto};
-ghost use Rattle.series_text.specs.Calls.{readingOf, readInto, handed};
+ghost use Rattle.text_rules.specs.Calls.{readInto, handed};
+ghost use Rattle.series_text.specs.Answers.{readingOf};
 
 // What reading a text answers: the values of line 2 with the number of positions, or a refusal.
 pub enum Reading {

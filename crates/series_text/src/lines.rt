@@ -3,7 +3,6 @@ use crate::field::Found;
 use crate::field::find_end;
 use crate::letters::Named;
 use crate::letters::method_by;
-use crate::names::Heading;
 use crate::names::Names;
 use crate::names::is_coded;
 use crate::names::read_columns;
@@ -14,6 +13,7 @@ use crate::row::read_row;
 use series::Contracts;
 use series::Refusal;
 use series::Terms;
+use text_rules::Heading;
 ghost use mathlib.Core.Path.{_≡_};
 ghost use Prim.Native.Nat.{_≤_};
 ghost use lib.ListN.{length, drop};
@@ -21,8 +21,8 @@ ghost use lib.Seq.{slice};
 ghost use Rattle.series.specs.Results.{refused};
 ghost use Rattle.series.specs.Answers.{numberOf};
 ghost use Rattle.series.specs.declared.Terms.{Terms as Terms·};
-ghost use Rattle.series_text.specs.Letters.{methodOf};
-ghost use Rattle.series_text.specs.Text.{readTerms, readHead, readPositions, MOST_LINES};
+ghost use Rattle.text_rules.specs.Letters.{methodOf};
+ghost use Rattle.text_rules.specs.Text.{readTerms, readHead, readPositions, MOST_LINES};
 ghost use Rattle.series_text.specs.Parts.{namedMeans, rowMeans, TermsMalformed, termsMeans, headMeans, readPosition, positionsMean, positionsWithin};
 
 // The values of line 2, and the index after it.

@@ -1,18 +1,12 @@
 // The names lines: fixed byte strings that the reader compares and the writer writes, and what each stands for.
 use crate::field::Line;
 use crate::field::skip_line;
+use text_rules::Heading;
 ghost use mathlib.Core.Path.{_≡_};
 ghost use mathlib.Core.List.{[], _∷_};
 ghost use lib.ListN.{drop};
-ghost use Rattle.series_text.specs.Names.{line3, headingOf, coded, afterLine, namesLine, readNames};
+ghost use Rattle.text_rules.specs.Names.{line3, headingOf, coded, afterLine, namesLine, readNames};
 ghost use Rattle.series_text.specs.Parts.{lineMeans, namesMean};
-
-// What a names line stands for: the values of line 2, or the columns of the position lines, without a code or with one.
-pub enum Heading {
-    Terms,
-    Positions,
-    CodedPositions,
-}
 
 // A names line, with the index after it.
 pub enum Names {

@@ -2,8 +2,8 @@
 ghost use mathlib.Core.Path.{_≡_};
 ghost use mathlib.Core.Bool.{true};
 ghost use lib.ListN.{drop};
-ghost use Rattle.series_text.specs.Numbers.{digit};
-ghost use Rattle.series_text.specs.Fields.{ends};
+ghost use Rattle.text_rules.specs.Numbers.{digit};
+ghost use Rattle.text_rules.specs.Fields.{ends};
 ghost use Rattle.series_text.specs.Parts.{fieldMeans, numberBy};
 
 // A number, and the index of the byte after its field.

@@ -6,8 +6,8 @@ use crate::number::Field;
 use crate::number::read_number;
 ghost use mathlib.Core.Path.{_≡_};
 ghost use lib.ListN.{length, drop};
-ghost use Rattle.series_text.specs.Fields.{readFields};
-ghost use Rattle.series_text.specs.Rows.{readRow};
+ghost use Rattle.text_rules.specs.Fields.{readFields};
+ghost use Rattle.text_rules.specs.Rows.{readRow};
 ghost use Rattle.series_text.specs.Parts.{rowMeans, foundFields};
 
 // The index after a row of numbers, where there is one.

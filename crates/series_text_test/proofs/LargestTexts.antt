@@ -8,13 +8,13 @@ use Rattle.series.specs.Results.{refused, value, status}
 use Rattle.series.specs.Series.{Series}
 use Rattle.series.specs.Sums.{listed}
 use Rattle.series.specs.declared.Method.{Method}
-use Rattle.series_text.specs.Numbers.{digit, digits, spelled, amountFrom, amount, numeral, number, decimalIn, decimal}
-use Rattle.series_text.specs.Fields.{Text, ends, field, past, fieldBy, endBefore, readFields, writeNumber}
-use Rattle.series_text.specs.Rows.{numbers, readRow, readRows, writeRow, writeRows, rowsOf, column}
-use Rattle.series_text.specs.Names.{namesLine, afterLine, headingOr, readNames}
-use Rattle.series_text.specs.Letters.{letter, methodAmong, methodBy, methodOf}
-use Rattle.series_text.specs.Text.{readTerms, readHead, readPositions, readText, writeTerms, writeHead, textWith, sameNumbers, writesCodes, writeText}
-use Rattle.series_text.specs.Calls.{evenly, lineCount, headAndLines, writeInto, lengthOf}
+use Rattle.text_rules.specs.Numbers.{digit, digits, spelled, amountFrom, amount, numeral, number, decimalIn, decimal}
+use Rattle.text_rules.specs.Fields.{Text, ends, field, past, fieldBy, endBefore, readFields, writeNumber}
+use Rattle.text_rules.specs.Rows.{numbers, readRow, readRows, writeRow, writeRows, rowsOf, column}
+use Rattle.text_rules.specs.Names.{namesLine, afterLine, headingOr, readNames}
+use Rattle.text_rules.specs.Letters.{letter, methodAmong, methodBy, methodOf}
+use Rattle.text_rules.specs.Text.{readTerms, readHead, readPositions, readText, writeTerms, writeHead, textWith, sameNumbers, writesCodes, writeText}
+use Rattle.text_rules.specs.Calls.{evenly, lineCount, headAndLines, writeInto, lengthOf}
 
 -- n positions of the largest numbers, of 33 bytes each with the code column, and then one more
 pub large : ℕ → ℕ → ℕ → ℕ → Series

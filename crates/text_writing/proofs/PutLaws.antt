@@ -9,10 +9,10 @@ use lib.ListN.{length, getD, take, drop, set, length-append, length-drop, length
 use lib.Seq.{paste, take-all, take-at, take-length, drop-length, take-suc, drop-drop, take-paste, drop-paste, length-paste, set-split, set-at, length-take-le, append-snoc}
 use borrow.Rule.Slice.PartMut.{putMid, postOf}
 use Rattle.series.specs.Outputs.{onto}
-use Rattle.series_text.specs.Numbers.{decimal}
-use Rattle.series_text.specs.Fields.{writeNumber}
+use Rattle.text_rules.specs.Numbers.{decimal}
+use Rattle.text_rules.specs.Fields.{writeNumber}
 use Rattle.text_writing.specs.Parts.{placed, Put}
-use Rattle.series_text.proofs.DecimalLaws.{LeftOf, left-start, left-digit, left-more}
+use Rattle.text_rules.proofs.DecimalLaws.{LeftOf, left-start, left-digit, left-more}
 
 placed-paste : (vs : List ℕ) (at : ℕ) (old : List ℕ) → placed vs at old ≡ paste old at vs (length vs)
 unfolding placed

@@ -15,20 +15,20 @@ use Rattle.series.specs.Series.{Series}
 use Rattle.series.specs.Outputs.{onto}
 use Rattle.series.specs.Sums.{listed}
 use Rattle.series.specs.declared.Terms.{Terms}
-use Rattle.series_text.specs.Fields.{Text, COMMA}
-use Rattle.series_text.specs.Rows.{writeRow, writeRows, rowOf, rowsOf}
-use Rattle.series_text.specs.Names.{namesLine, headingOf}
-use Rattle.series_text.specs.Letters.{letter}
-use Rattle.series_text.specs.Text.{MOST_BYTES, MOST_LINES, writeTerms, writeHead, columnsBy, columns, sameNumbers, writesCodes}
-use Rattle.series_text.specs.declared.names.Heading.{Heading}
-use Rattle.series_text.specs.Parts.{Plain}
-use Rattle.series_text.specs.Calls.{evenly, lineCount, headAndLines, linesInto, writeInto, lengthOf}
+use Rattle.text_rules.specs.Fields.{Text, COMMA}
+use Rattle.text_rules.specs.Rows.{writeRow, writeRows, rowOf, rowsOf}
+use Rattle.text_rules.specs.Names.{namesLine, headingOf}
+use Rattle.text_rules.specs.Letters.{letter}
+use Rattle.text_rules.specs.Text.{MOST_BYTES, MOST_LINES, writeTerms, writeHead, columnsBy, columns, sameNumbers, writesCodes}
+use Rattle.text_rules.specs.declared.Heading.{Heading}
+use Rattle.text_rules.specs.Lists.{Plain}
+use Rattle.text_rules.specs.Calls.{evenly, lineCount, headAndLines, linesInto, writeInto, lengthOf}
 use Rattle.text_writing.specs.Parts.{Put, written, leftOut, Unwritten, FiveColumns}
 use Rattle.text_writing.specs.Tables.{tablesInto, bothWithin}
 use Rattle.series.proofs.ResultLaws.{never, value-is, Stepped, stepped, not-refused}
-use Rattle.series_text.proofs.RoundTrip.{same-numbers}
-use Rattle.series_text.proofs.RowLaws.{Each}
-use Rattle.series_text.proofs.LengthLaws.{linesOf, lines-all, even-each, LinesKnown, lines-known}
+use Rattle.text_rules.proofs.RoundTrip.{same-numbers}
+use Rattle.text_rules.proofs.RowLaws.{Each}
+use Rattle.text_rules.proofs.LengthLaws.{linesOf, lines-all, even-each, LinesKnown, lines-known}
 use Rattle.text_writing.proofs.PutLaws.{placed-onto, put-append, put-byte}
 
 -- line 2: the letter and a comma, and then the row

@@ -4,7 +4,7 @@ use mathlib.Core.Path.{_≡_}
 use mathlib.Core.Bool.{Bool, true, false}
 use mathlib.Core.List.{List, [], _∷_, _++_}
 use lib.ListN.{length, take, drop}
-use Rattle.series_text.specs.Text.{MOST_LINES}
+use Rattle.text_rules.specs.Text.{MOST_LINES}
 
 -- the list old with vs in the place of what stood from index at on
 unfoldable pub placed : List ℕ → ℕ → List ℕ → List ℕ

@@ -4,8 +4,8 @@ use mathlib.Core.List.{List, _++_}
 use lib.Dec.{ltb}
 use lib.ListN.{length}
 use Rattle.series.specs.Results.{Result, _>>=_, refuse}
-use Rattle.series_text.specs.Fields.{Text}
-use Rattle.series_text.specs.Calls.{headAndLines}
+use Rattle.text_rules.specs.Fields.{Text}
+use Rattle.text_rules.specs.Calls.{headAndLines}
 
 -- two tables, one after the other, to an output of length room: the refusals of the first, then of the second, then 4
 unfoldable pub tablesInto : Text → List (List ℕ) → Text → List (List ℕ) → ℕ → Result Text

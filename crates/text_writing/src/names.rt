@@ -1,12 +1,12 @@
 // Writing the names lines.
 use crate::put::put_line;
 use series_text::names::CODED_NAMES;
-use series_text::names::Heading;
 use series_text::names::POSITION_NAMES;
 use series_text::names::TERMS_NAMES;
+use text_rules::Heading;
 ghost use Prim.Native.Nat.{_+_, _≤_};
 ghost use lib.ListN.{length};
-ghost use Rattle.series_text.specs.Names.{namesLine};
+ghost use Rattle.text_rules.specs.Names.{namesLine};
 ghost use Rattle.text_writing.specs.Parts.{Put};
 
 // Puts the line of a heading.

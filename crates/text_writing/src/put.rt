@@ -2,8 +2,8 @@
 ghost use mathlib.Core.Path.{_≡_};
 ghost use Prim.Native.Nat.{_+_, _≤_};
 ghost use lib.ListN.{length};
-ghost use Rattle.series_text.specs.Numbers.{decimal};
-ghost use Rattle.series_text.specs.Fields.{writeNumber};
+ghost use Rattle.text_rules.specs.Numbers.{decimal};
+ghost use Rattle.text_rules.specs.Fields.{writeNumber};
 ghost use Rattle.text_writing.specs.Parts.{Put};
 
 // How many digits a number has.

@@ -5,7 +5,7 @@ use series_text::ends::end_before;
 ghost use mathlib.Core.Path.{_≡_};
 ghost use Prim.Native.Nat.{_+_, _*_, _≤_};
 ghost use lib.ListN.{length};
-ghost use Rattle.series_text.specs.Rows.{writeRow};
+ghost use Rattle.text_rules.specs.Rows.{writeRow};
 ghost use Rattle.text_writing.specs.Parts.{Put};
 
 // The length of a row's line.

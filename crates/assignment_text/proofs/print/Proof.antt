@@ -4,7 +4,7 @@ use lib.ListN.{length}
 use Rattle.series.specs.Ascii.{ascii}
 use Rattle.series.specs.Results.{after}
 use Rattle.series.specs.Outputs.{onto}
-use Rattle.series_text.specs.Calls.{lengthOf}
+use Rattle.text_rules.specs.Calls.{lengthOf}
 use Rattle.assignment_text.specs.Printed.{assignedLines}
 use Rattle.assignment_text.proofs.PrintLaws.{table-is, allocation-printed}
 use Rattle.assignment_text.proofs.print.Statement.{statement}

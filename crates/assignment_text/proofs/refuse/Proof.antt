@@ -6,7 +6,7 @@ use Rattle.series.specs.Results.{after}
 use Rattle.series.specs.Outputs.{onto}
 use Rattle.series.specs.Ascii.{ascii}
 use Rattle.text_writing.specs.Answers.{writingOf}
-use Rattle.series_text.specs.Calls.{lengthOf}
+use Rattle.text_rules.specs.Calls.{lengthOf}
 use Rattle.assignment_text.specs.Printed.{refusedLines}
 use Rattle.assignment_text.specs.declared.Response.{Response}
 use Rattle.assignment_text.proofs.PrintLaws.{textInto, note-is, print-short, print-all}

@@ -5,8 +5,8 @@ use native.Mathlib.Omega.{arith}
 use lib.ListN.{length, take}
 use lib.Seq.{length-take-le}
 use Rattle.series.specs.Results.{value}
-use Rattle.series_text.specs.Text.{MOST_LINES, readText}
-use Rattle.series_text.specs.Calls.{readingOf}
+use Rattle.text_rules.specs.Text.{MOST_LINES, readText}
+use Rattle.series_text.specs.Answers.{readingOf}
 use Rattle.assignment_text.proofs.ReadingLaws.{read-refused, read-series}
 use Rattle.assignment_text.proofs.PrintLaws.{text-refused, text-read}
 use borrow.Author.Needs.{needs}

@@ -1,6 +1,6 @@
 -- `dilbreth_read` meets its contract: what reading hands back stands behind the arguments.
 use mathlib.Core.Path.{sym, ap, _∙_}
-use Rattle.series_text.specs.Calls.{readingOf}
+use Rattle.series_text.specs.Answers.{readingOf}
 use Rattle.dilbreth.proofs.ExportLaws.{read-hands}
 use borrow.Author.Needs.{needs}
 use Rattle.dilbreth.proofs.dilbreth_read.Statement.{statement}

@@ -2,7 +2,7 @@
 use Prim.Native.Nat.{_≤_, _-_}
 use mathlib.Core.Path.{_≡_}
 use native.Mathlib.Omega.{arith}
-use Rattle.series_text.proofs.CopyLaws.{CopiedTo, copied-start, copied-more, copied-first}
+use Rattle.text_rules.proofs.CopyLaws.{CopiedTo, copied-start, copied-more, copied-first}
 use Rattle.series_text.proofs.copy_first.Statement.{statement}
 use Rattle.series_text.proofs.copy_first.Tie as tie
 

@@ -3,10 +3,10 @@ use Prim.Native.Nat.{_≤_}
 use mathlib.Core.Path.{_≡_, refl, sym, ap, subst, _∙_}
 use borrow.Author.Needs.{needs}
 use lib.ListN.{drop}
-use Rattle.series_text.specs.Text.{MOST_LINES, readHead}
+use Rattle.text_rules.specs.Text.{MOST_LINES, readHead}
 use Rattle.series_text.specs.Parts.{headMeans, positionsMean, positionsWithin}
 use Rattle.series_text.specs.declared.lines.HeadLines.{HeadLines}
-use Rattle.series_text.proofs.ReadLaws.{PositionsRead, head-refused, positions-fault, codes-short, accounts-short, shorts-short, read-all}
+use Rattle.text_rules.proofs.ReadLaws.{PositionsRead, head-refused, positions-fault, codes-short, accounts-short, shorts-short, read-all}
 use Rattle.series_text.proofs.read.Statement.{statement}
 use Rattle.series_text.proofs.read.Tie as tie
 

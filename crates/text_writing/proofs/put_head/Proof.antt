@@ -4,10 +4,10 @@ use mathlib.Core.Path.{_∙_}
 use mathlib.Core.List.{[], _∷_}
 use native.Mathlib.Omega.{arith}
 use lib.ListN.{length, length-set}
-use Rattle.series_text.specs.Names.{namesLine, headingOf}
-use Rattle.series_text.specs.Rows.{writeRow}
-use Rattle.series_text.specs.declared.names.Heading.{Heading}
-use Rattle.series_text.proofs.LengthLaws.{length-head, head-room}
+use Rattle.text_rules.specs.Names.{namesLine, headingOf}
+use Rattle.text_rules.specs.Rows.{writeRow}
+use Rattle.text_rules.specs.declared.Heading.{Heading}
+use Rattle.text_rules.proofs.LengthLaws.{length-head, head-room}
 use Rattle.text_writing.proofs.WriteLaws.{put-head}
 use borrow.Author.Needs.{needs}
 use Rattle.text_writing.proofs.put_head.Statement.{statement}

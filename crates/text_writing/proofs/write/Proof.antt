@@ -7,10 +7,10 @@ use lib.ListN.{length, take}
 use lib.Seq.{length-take-le}
 use borrow.Author.Tests.{not-false}
 use Rattle.series.specs.Series.{Series}
-use Rattle.series_text.specs.Text.{writeHead, columns, writesCodes}
-use Rattle.series_text.specs.Calls.{headAndLines, writeInto, lengthOf}
-use Rattle.series_text.proofs.LengthLaws.{head-room}
-use Rattle.series_text.proofs.RoundTrip.{same-numbers}
+use Rattle.text_rules.specs.Text.{writeHead, columns, writesCodes}
+use Rattle.text_rules.specs.Calls.{headAndLines, writeInto, lengthOf}
+use Rattle.text_rules.proofs.LengthLaws.{head-room}
+use Rattle.text_rules.proofs.RoundTrip.{same-numbers}
 use Rattle.text_writing.specs.Answers.{writingOf}
 use Rattle.text_writing.specs.Parts.{written, Unwritten}
 use Rattle.text_writing.proofs.PutLaws.{put-taken}

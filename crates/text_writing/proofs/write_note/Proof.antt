@@ -1,7 +1,7 @@
 -- `write_note` meets its contract: a note is a head and one line of one number.
 use mathlib.Core.List.{[], _∷_}
 use native.Mathlib.Omega.{arith}
-use Rattle.series_text.specs.Calls.{noteInto}
+use Rattle.text_rules.specs.Calls.{noteInto}
 use Rattle.text_writing.proofs.PutLaws.{put-append}
 use Rattle.text_writing.proofs.WriteLaws.{lines-short, lines-put, one-row, note-measured}
 use borrow.Author.Needs.{needs}

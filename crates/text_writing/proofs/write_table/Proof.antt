@@ -6,7 +6,7 @@ use Prim.Native.Nat.{ℕ}
 use native.Mathlib.Omega.{arith}
 use lib.ListN.{length}
 use Rattle.series.specs.Results.{value}
-use Rattle.series_text.specs.Calls.{headAndLines, tableInto, lengthOf}
+use Rattle.text_rules.specs.Calls.{headAndLines, tableInto, lengthOf}
 use Rattle.text_writing.specs.Answers.{writingOf}
 use Rattle.text_writing.specs.Tables.{bothWithin}
 use Rattle.text_writing.proofs.WriteLaws.{Fitting, headed, series-unwritten, measured-columns, table-refused, table-fits, table-put}

@@ -5,7 +5,7 @@ use mathlib.Core.List.{List, [], _∷_}
 use Prim.Native.Nat.{ℕ}
 use native.Mathlib.Omega.{arith}
 use lib.ListN.{length}
-use Rattle.series_text.specs.Calls.{headAndLines, lengthOf}
+use Rattle.text_rules.specs.Calls.{headAndLines, lengthOf}
 use Rattle.text_writing.specs.Answers.{writingOf}
 use Rattle.text_writing.specs.Tables.{bothWithin}
 use Rattle.text_writing.proofs.WriteLaws.{TablesFit, series-unwritten, none-unwritten, measured-columns, tables-refused, tables-fit, tables-put}

@@ -1,7 +1,7 @@
 -- `row::end_before` meets its contract: byte 10 where no field follows, else a comma.
 use Prim.Native.Nat.{ℕ, zero, suc}
 use mathlib.Core.Path.{_≡_, refl}
-use Rattle.series_text.specs.Fields.{COMMA, endBefore}
+use Rattle.text_rules.specs.Fields.{COMMA, endBefore}
 use Rattle.series_text.proofs.ends.end_before.Statement.{statement}
 use Rattle.series_text.proofs.ends.end_before.Tie as tie
 

@@ -1,5 +1,5 @@
 -- `field::ends_field` meets its contract.
-use Rattle.series_text.specs.Fields.{ends}
+use Rattle.text_rules.specs.Fields.{ends}
 use borrow.Author.Tests.{ne-eqb}
 use Rattle.series_text.proofs.field.ends_field.Statement.{statement}
 use Rattle.series_text.proofs.field.ends_field.Tie as tie

@@ -5,7 +5,7 @@ use mathlib.Core.Bool.{true}
 use native.Mathlib.Omega.{arith}
 use lib.ListN.{length}
 use borrow.Author.Tests.{ne-eqb}
-use Rattle.series_text.specs.Fields.{ends}
+use Rattle.text_rules.specs.Fields.{ends}
 use Rattle.series_text.proofs.FieldLaws.{ReadTo, read-start, read-more, read-end, read-other, read-none}
 use Rattle.series_text.proofs.field.find_end.Statement.{statement}
 use Rattle.series_text.proofs.field.find_end.Tie as tie

@@ -1,6 +1,6 @@
 -- `letter_of` meets its contract.
 use mathlib.Core.Path.{sym, ap}
-use Rattle.series_text.specs.Letters.{letter}
+use Rattle.text_rules.specs.Letters.{letter}
 use borrow.Author.Needs.{needs}
 use Rattle.series_text.proofs.letters.letter_of.Statement.{statement}
 use Rattle.series_text.proofs.letters.letter_of.Tie as tie

@@ -1,6 +1,6 @@
 -- `method_by` meets its contract.
 use borrow.Author.Tests.{ne-eqb}
-use Rattle.series_text.specs.Letters.{letter, methodAmong, methodBy}
+use Rattle.text_rules.specs.Letters.{letter, methodAmong, methodBy}
 use Rattle.series_text.proofs.letters.method_by.Statement.{statement}
 use Rattle.series_text.proofs.letters.method_by.Tie as tie
 

@@ -3,8 +3,8 @@ use mathlib.Core.Path.{_≡_, sym, ap, _∙_}
 use native.Mathlib.Omega.{arith}
 use borrow.Author.Needs.{needs}
 use lib.ListN.{drop}
-use Rattle.series_text.specs.Names.{line1, readNames}
-use Rattle.series_text.specs.Text.{readTerms}
+use Rattle.text_rules.specs.Names.{line1, readNames}
+use Rattle.text_rules.specs.Text.{readTerms}
 use Rattle.series_text.specs.Parts.{namesMean, termsMeans}
 use Rattle.series_text.specs.declared.names.Names.{Names}
 use Rattle.series_text.specs.declared.lines.TermsLine.{TermsLine}

@@ -7,11 +7,11 @@ use borrow.Author.Needs.{needs}
 use lib.ListN.{length, take, length-set}
 use lib.Seq.{length-take-le}
 use Rattle.series.specs.Sums.{listed}
-use Rattle.series_text.specs.Rows.{rowsOf}
-use Rattle.series_text.specs.Text.{MOST_LINES}
+use Rattle.text_rules.specs.Rows.{rowsOf}
+use Rattle.text_rules.specs.Text.{MOST_LINES}
 use Rattle.series_text.specs.Parts.{rowMeans}
 use Rattle.series_text.proofs.LineLaws.{RowsTo, rows-start, rows-end, rows-over, rows-malformed, rows-more, positions-refused, positions-all}
-use Rattle.series_text.proofs.ColumnLaws.{rows-set}
+use Rattle.text_rules.proofs.ColumnLaws.{rows-set}
 use Rattle.series_text.proofs.lines.read_positions.Statement.{statement}
 use Rattle.series_text.proofs.lines.read_positions.Tie as tie
 

@@ -5,8 +5,8 @@ use native.Mathlib.Omega.{arith}
 use borrow.Author.Needs.{needs}
 use lib.ListN.{drop}
 use Rattle.series.specs.Results.{value}
-use Rattle.series_text.specs.Fields.{COMMA}
-use Rattle.series_text.specs.Rows.{readRow}
+use Rattle.text_rules.specs.Fields.{COMMA}
+use Rattle.text_rules.specs.Rows.{readRow}
 use Rattle.series_text.specs.Parts.{foundMeans, rowMeans, namedMeans}
 use Rattle.series_text.proofs.LineLaws.{FoundAt, found-at, terms-first, terms-unknown, terms-all, row-found}
 use Rattle.series_text.proofs.lines.read_terms.Statement.{statement}

@@ -1,7 +1,7 @@
 -- `names::read_names` meets its contract: the one known heading, or none.
 use borrow.Author.Needs.{needs}
 use mathlib.Core.Path.{sym, ap, _∙_}
-use Rattle.series_text.specs.Names.{headingOr}
+use Rattle.text_rules.specs.Names.{headingOr}
 use Rattle.series_text.specs.Parts.{lineMeans}
 use Rattle.series_text.proofs.LineLaws.{names-read}
 use Rattle.series_text.proofs.names.read_names.Statement.{statement}

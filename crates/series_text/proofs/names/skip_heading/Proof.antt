@@ -1,6 +1,6 @@
 -- `names::skip_heading` meets its contract: the byte strings of the code are the lines of the headings.
 use Rattle.series.specs.Ascii.{ascii}
-use Rattle.series_text.specs.Names.{namesLine}
+use Rattle.text_rules.specs.Names.{namesLine}
 use borrow.Author.Needs.{needs}
 use Rattle.series_text.proofs.names.skip_heading.Statement.{statement}
 use Rattle.series_text.proofs.names.skip_heading.Tie as tie

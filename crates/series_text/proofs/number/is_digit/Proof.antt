@@ -1,5 +1,5 @@
 -- `number::is_digit` meets its contract.
-use Rattle.series_text.specs.Numbers.{digit}
+use Rattle.text_rules.specs.Numbers.{digit}
 use borrow.Author.Tests.{lt-leb, le-leb}
 use Rattle.series_text.proofs.number.is_digit.Statement.{statement}
 use Rattle.series_text.proofs.number.is_digit.Tie as tie

@@ -4,7 +4,8 @@ use mathlib.Core.Path.{sym, _∙_}
 use native.Mathlib.Omega.{arith}
 use borrow.Author.Tests.{not-true, not-false}
 use lib.ListN.{length, getD}
-use Rattle.series_text.proofs.FieldLaws.{NumberTo, digit-bounds, number-start, number-small, number-more, number-long, number-other, number-none, number-end, number-empty, number-large}
+use Rattle.text_rules.proofs.FieldLaws.{digit-bounds}
+use Rattle.series_text.proofs.FieldLaws.{NumberTo, number-start, number-small, number-more, number-long, number-other, number-none, number-end, number-empty, number-large}
 use Rattle.series_text.proofs.number.read_number.Statement.{statement}
 use Rattle.series_text.proofs.number.read_number.Tie as tie
 

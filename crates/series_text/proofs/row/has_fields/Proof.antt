@@ -4,7 +4,7 @@ use mathlib.Core.Path.{_≡_, refl, sym, ap, subst, _∙_}
 use native.Mathlib.Omega.{arith}
 use borrow.Author.Needs.{needs}
 use lib.ListN.{length, drop}
-use Rattle.series_text.specs.Fields.{fieldBy, endBefore}
+use Rattle.text_rules.specs.Fields.{fieldBy, endBefore}
 use Rattle.series_text.specs.Parts.{foundMeans, foundWithin}
 use Rattle.series_text.proofs.LineLaws.{FoundAt, found-at, FieldsTo, fields-missing, fields-more, fields-all}
 use Rattle.series_text.proofs.row.has_fields.Statement.{statement}

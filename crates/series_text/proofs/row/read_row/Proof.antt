@@ -3,7 +3,7 @@ use Prim.Native.Nat.{_+_, _-_, _≤_}
 use mathlib.Core.Path.{_≡_, refl, sym, ap, _∙_}
 use native.Mathlib.Omega.{arith}
 use lib.ListN.{length, drop, length-set}
-use Rattle.series_text.specs.Fields.{ends}
+use Rattle.text_rules.specs.Fields.{ends}
 use Rattle.series_text.specs.Parts.{fieldMeans, numberBy}
 use Rattle.series_text.proofs.LineLaws.{end-last, end-other, RowTo, row-start, row-end, row-more, row-malformed}
 use borrow.Author.Needs.{needs}

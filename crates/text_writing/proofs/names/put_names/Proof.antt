@@ -1,6 +1,6 @@
 -- `names::put_names` meets its contract: the byte strings of the code are the lines of the headings.
 use Rattle.series.specs.Ascii.{ascii}
-use Rattle.series_text.specs.Names.{namesLine}
+use Rattle.text_rules.specs.Names.{namesLine}
 use borrow.Author.Needs.{needs}
 use Rattle.text_writing.proofs.names.put_names.Statement.{statement}
 use Rattle.text_writing.proofs.names.put_names.Tie as tie

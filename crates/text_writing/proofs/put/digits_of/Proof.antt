@@ -1,6 +1,6 @@
 -- `put::digits_of` meets its contract: one law, at each power of ten.
 use native.Mathlib.Omega.{arith}
-use Rattle.series_text.proofs.DecimalLaws.{digits-one, digits-at}
+use Rattle.text_rules.proofs.DecimalLaws.{digits-one, digits-at}
 use Rattle.text_writing.proofs.put.digits_of.Statement.{statement}
 use Rattle.text_writing.proofs.put.digits_of.Tie as tie
 

@@ -3,8 +3,8 @@ use Prim.Native.Nat.{_+_, _-_, _<_}
 use mathlib.Core.Path.{_∙_}
 use native.Mathlib.Omega.{arith}
 use lib.ListN.{length, length-set}
-use Rattle.series_text.specs.Numbers.{decimal}
-use Rattle.series_text.proofs.LengthLaws.{length-number}
+use Rattle.text_rules.specs.Numbers.{decimal}
+use Rattle.text_rules.proofs.LengthLaws.{length-number}
 use Rattle.text_writing.proofs.PutLaws.{DigitsPut, digits-start, digits-more, digits-end}
 use Rattle.text_writing.proofs.put.put_number.Statement.{statement}
 use Rattle.text_writing.proofs.put.put_number.Tie as tie

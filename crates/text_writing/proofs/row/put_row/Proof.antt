@@ -2,10 +2,10 @@
 use Prim.Native.Nat.{_+_, _-_, _≤_, _<_}
 use native.Mathlib.Omega.{arith}
 use lib.ListN.{length, getD, drop}
-use Rattle.series_text.specs.Rows.{writeRow}
-use Rattle.series_text.proofs.LengthLaws.{length-number}
+use Rattle.text_rules.specs.Rows.{writeRow}
+use Rattle.text_rules.proofs.LengthLaws.{length-number}
 use Rattle.text_writing.proofs.PutLaws.{Left, put-start, put-more, put-end}
-use Rattle.series_text.proofs.LengthLaws.{numberAt, row-next, row-next-length, row-done}
+use Rattle.text_rules.proofs.LengthLaws.{numberAt, row-next, row-next-length, row-done}
 use Rattle.text_writing.proofs.row.put_row.Statement.{statement}
 use Rattle.text_writing.proofs.row.put_row.Tie as tie
 

@@ -3,9 +3,9 @@ use Prim.Native.Nat.{_+_, _*_, _-_, _≤_}
 use mathlib.Core.Path.{_≡_, ap}
 use native.Mathlib.Omega.{arith}
 use lib.ListN.{length, getD, drop}
-use Rattle.series_text.specs.Rows.{writeRow}
-use Rattle.series_text.proofs.DecimalLaws.{digits-few}
-use Rattle.series_text.proofs.LengthLaws.{row-next-length, row-done}
+use Rattle.text_rules.specs.Rows.{writeRow}
+use Rattle.text_rules.proofs.DecimalLaws.{digits-few}
+use Rattle.text_rules.proofs.LengthLaws.{row-next-length, row-done}
 use Rattle.text_writing.proofs.row.row_length.Statement.{statement}
 use Rattle.text_writing.proofs.row.row_length.Tie as tie
 

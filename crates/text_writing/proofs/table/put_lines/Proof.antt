@@ -1,7 +1,7 @@
 -- `table::put_lines` meets its contract: the head, and then the lines.
 use Prim.Native.Nat.{_+_, _≤_}
 use lib.ListN.{length, length-append}
-use Rattle.series_text.specs.Rows.{writeRows, rowsOf}
+use Rattle.text_rules.specs.Rows.{writeRows, rowsOf}
 use Rattle.text_writing.specs.Parts.{written}
 use Rattle.text_writing.proofs.PutLaws.{put-append}
 use native.Mathlib.Omega.{arith}

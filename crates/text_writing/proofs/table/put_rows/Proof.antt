@@ -6,11 +6,11 @@ use native.Mathlib.Omega.{arith}
 use lib.ListN.{length}
 use borrow.Author.Needs.{needs}
 use Rattle.series.specs.Sums.{listed}
-use Rattle.series_text.specs.Rows.{writeRow, writeRows, rowOf}
+use Rattle.text_rules.specs.Rows.{writeRow, writeRows, rowOf}
 use Rattle.text_writing.specs.Parts.{Put, written}
 use Rattle.text_writing.proofs.PutLaws.{put-nil, put-append}
 use Rattle.text_writing.proofs.WriteLaws.{row-written, lines-by}
-use Rattle.series_text.proofs.LengthLaws.{linesOf, lines-next, lines-next-length, lines-within}
+use Rattle.text_rules.proofs.LengthLaws.{linesOf, lines-next, lines-next-length, lines-within}
 use Rattle.text_writing.proofs.table.put_rows.Statement.{statement}
 use Rattle.text_writing.proofs.table.put_rows.Tie as tie
 

@@ -6,8 +6,8 @@ use native.Mathlib.Omega.{arith}
 use lib.ListN.{length}
 use borrow.Author.Needs.{needs}
 use Rattle.series.specs.Sums.{listed}
-use Rattle.series_text.specs.Rows.{writeRow, writeRows, rowOf}
-use Rattle.series_text.proofs.LengthLaws.{linesOf, lines-next-length}
+use Rattle.text_rules.specs.Rows.{writeRow, writeRows, rowOf}
+use Rattle.text_rules.proofs.LengthLaws.{linesOf, lines-next-length}
 use Rattle.text_writing.specs.Parts.{written}
 use Rattle.text_writing.proofs.WriteLaws.{row-written, row-short, lines-by}
 use Rattle.text_writing.proofs.table.rows_length.Statement.{statement}

@@ -7,11 +7,11 @@ use lib.ListN.{length, getD}
 use Rattle.series.specs.Results.{Result, value, _>>=_, refuse}
 use Rattle.series.specs.Series.{Series}
 use Rattle.series.specs.declared.Terms.{Terms}
-use Rattle.series_text.specs.Fields.{Text, COMMA, Read, fieldBy, readFields}
-use Rattle.series_text.specs.Rows.{numbers, readRows, writeRow, writeRows, rowsOf, column}
-use Rattle.series_text.specs.Names.{line1, line3, namesLine, headingOf, coded, readNames}
-use Rattle.series_text.specs.Letters.{letter, methodOf}
-use Rattle.series_text.specs.declared.names.Heading.{Heading}
+use Rattle.text_rules.specs.Fields.{Text, COMMA, Read, fieldBy, readFields}
+use Rattle.text_rules.specs.Rows.{numbers, readRows, writeRow, writeRows, rowsOf, column}
+use Rattle.text_rules.specs.Names.{line1, line3, namesLine, headingOf, coded, readNames}
+use Rattle.text_rules.specs.Letters.{letter, methodOf}
+use Rattle.text_rules.specs.declared.Heading.{Heading}
 
 -- the most bytes that a text has
 abbrev pub MOST_BYTES : ℕ

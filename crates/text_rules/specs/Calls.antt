@@ -4,24 +4,17 @@ use mathlib.Core.Bool.{Bool, true, not, _&&_, _||_}
 use mathlib.Core.List.{List, [], _∷_, _++_}
 use lib.Dec.{eqb, ltb}
 use lib.ListN.{length}
-use Rattle.series.specs.Answers.{numberOf}
-use Rattle.series.specs.Results.{Result, refused, value, _>>=_, refuse}
+use Rattle.series.specs.Results.{Result, value, _>>=_, refuse}
 use Rattle.series.specs.Series.{Series}
 use Rattle.series.specs.declared.Terms.{Terms}
-use Rattle.series_text.specs.Fields.{Text}
-use Rattle.series_text.specs.Rows.{writeRows, rowsOf}
-use Rattle.series_text.specs.Text.{MOST_BYTES, MOST_LINES, readText, writeHead, writesCodes, columns}
-use Rattle.series_text.specs.declared.Reading.{Reading}
+use Rattle.text_rules.specs.Fields.{Text}
+use Rattle.text_rules.specs.Rows.{writeRows, rowsOf}
+use Rattle.text_rules.specs.Text.{MOST_BYTES, MOST_LINES, readText, writeHead, writesCodes, columns}
 
 -- what reading hands back: the values of line 2 and the number of positions
 pub record Handed : Type 0 where
   pub terms : Terms
   pub positions : ℕ
-
--- what each answer of reading hands back
-abbrev pub readingOf : Reading → Result Handed
-readingOf (Reading.Series t n) = value (record { terms = t; positions = n })
-readingOf (Reading.Refused r) = refused (numberOf r)
 
 -- reading a text into lists of these lengths: last of all 4, where one is shorter than the positions
 unfoldable pub readInto : Text → ℕ → ℕ → ℕ → Result Series

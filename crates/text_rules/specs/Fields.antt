@@ -6,7 +6,7 @@ use mathlib.Core.List.{List, [], _∷_, _++_}
 use lib.Dec.{eqb}
 use lib.ListN.{length, drop}
 use Rattle.series.specs.Results.{Result, refused, value, _>>=_}
-use Rattle.series_text.specs.Numbers.{decimal}
+use Rattle.text_rules.specs.Numbers.{decimal}
 
 abbrev pub Text : Type 0
 Text = List ℕ

@@ -15,16 +15,16 @@ use Rattle.series.specs.Results.{value, refuse}
 use Rattle.series.specs.declared.Terms.{Terms}
 use Rattle.series.proofs.ResultLaws.{stepped, not-refused}
 use Rattle.series.proofs.SumLaws.{sum-mono, sum-const, sum-first}
-use Rattle.series_text.specs.Numbers.{decimal}
-use Rattle.series_text.specs.Fields.{Text, endBefore, writeNumber}
-use Rattle.series_text.specs.Rows.{writeRow, writeRows, rowOf, rowsOf}
-use Rattle.series_text.specs.Names.{namesLine, headingOf}
-use Rattle.series_text.specs.Text.{MOST_LINES, writeTerms, writeHead, columnsBy}
-use Rattle.series_text.specs.declared.names.Heading.{Heading}
-use Rattle.series_text.specs.Parts.{Columns, Plain}
-use Rattle.series_text.specs.Calls.{evenly, lineCount, headAndLines}
-use Rattle.series_text.proofs.FieldLaws.{and-true-parts}
-use Rattle.series_text.proofs.RowLaws.{Each, row-few}
+use Rattle.text_rules.specs.Numbers.{decimal}
+use Rattle.text_rules.specs.Fields.{Text, endBefore, writeNumber}
+use Rattle.text_rules.specs.Rows.{writeRow, writeRows, rowOf, rowsOf}
+use Rattle.text_rules.specs.Names.{namesLine, headingOf}
+use Rattle.text_rules.specs.Text.{MOST_LINES, writeTerms, writeHead, columnsBy}
+use Rattle.text_rules.specs.declared.Heading.{Heading}
+use Rattle.text_rules.specs.Lists.{Columns, Plain}
+use Rattle.text_rules.specs.Calls.{evenly, lineCount, headAndLines}
+use Rattle.text_rules.proofs.FieldLaws.{and-true-parts}
+use Rattle.text_rules.proofs.RowLaws.{Each, row-few}
 
 pub length-number : (n c : ℕ) → length (writeNumber n c) ≡ length (decimal n) + 1
 unfolding writeNumber

@@ -1,4 +1,4 @@
--- A text reads as its series whatever the spellings of its numbers, with the code column or without it, and so does what writing wrote: of the definitions, and of the two calls.
+-- A text reads as its series whatever the spellings of its numbers, with the code column or without it, and so does what writing wrote. The same of the two calls: `series_text/proofs/CallsRoundTrip.antt`.
 use Prim.Native.Nat.{ℕ, _+_, _*_, _≤_, _<_}
 use mathlib.Core.Path.{_≡_, refl, sym, ap, ap₂, _∙_}
 use mathlib.Core.Bool.{Bool, true, false, not, true≢false}
@@ -6,29 +6,26 @@ use mathlib.Core.List.{List, [], _∷_, _++_, map, append-assoc}
 use native.Mathlib.Omega.{arith}
 use borrow.Author.Tests.{lt-ltb, le-ltb, ltb-false, eq-eqb, eqb-true, not-false}
 use lib.Dec.{eqb, ltb}
-use lib.ListN.{length, take, drop, length-append}
-use lib.Seq.{take-at}
+use lib.ListN.{length, length-append}
 use Rattle.series.specs.Ascii.{ascii}
-use Rattle.series.specs.Outputs.{onto}
-use Rattle.series.specs.Results.{value, after, refuse, refused}
+use Rattle.series.specs.Results.{value, refuse, refused}
 use Rattle.series.specs.Series.{Series, exercised, draw}
 use Rattle.series.specs.declared.Method.{Method}
 use Rattle.series.specs.declared.Terms.{Terms}
 use Rattle.series.proofs.ResultLaws.{value-is, stepped, not-refused}
-use Rattle.series_text.specs.Numbers.{LARGEST, decimal}
-use Rattle.series_text.specs.Fields.{Text, COMMA, ends, fieldBy}
-use Rattle.series_text.specs.Rows.{rowsOf}
-use Rattle.series_text.specs.Names.{line3, namesLine, headingOf, coded, afterLine, headingOr, readNames}
-use Rattle.series_text.specs.Letters.{letter, methodAmong, methodBy, methodOf}
-use Rattle.series_text.specs.Text.{MOST_BYTES, MOST_LINES, readTerms, readHead, lineWidth, seriesOf, readPositions, readText, writeTerms, writeHead, columns, textWith, sameNumbers, writesCodes, writeText}
-use Rattle.series_text.specs.Parts.{Columns, Plain}
-use Rattle.series_text.specs.Calls.{readingOf, readInto, handed, lineCount, headAndLines, writeInto, lengthOf}
-use Rattle.series_text.specs.declared.names.Heading.{Heading}
-use Rattle.series_text.specs.declared.Reading.{Reading}
-use Rattle.series_text.proofs.FieldLaws.{prefixed, field-byte, field-end, and-true-parts}
-use Rattle.series_text.proofs.RowLaws.{Fits, fits-none, fits-more, Figures, Each, fieldsLine, FieldsSpell, numbers-read, fields-read, row-spells, row-line, line-few, fieldsLines, LinesSpell, rows-read, rows-spell, rows-lines, lines-few, rows-fit}
-use Rattle.series_text.proofs.LengthLaws.{even-columns, lines-known, lines-written}
-use Rattle.series_text.proofs.ColumnLaws.{length-rows, column-rows}
+use Rattle.text_rules.specs.Numbers.{LARGEST, decimal}
+use Rattle.text_rules.specs.Fields.{Text, COMMA, ends, fieldBy}
+use Rattle.text_rules.specs.Rows.{rowsOf}
+use Rattle.text_rules.specs.Names.{line3, namesLine, headingOf, coded, afterLine, headingOr, readNames}
+use Rattle.text_rules.specs.Letters.{letter, methodAmong, methodBy, methodOf}
+use Rattle.text_rules.specs.Text.{MOST_BYTES, MOST_LINES, readTerms, readHead, lineWidth, seriesOf, readPositions, readText, writeTerms, writeHead, columns, textWith, sameNumbers, writesCodes, writeText}
+use Rattle.text_rules.specs.Lists.{Columns, Plain}
+use Rattle.text_rules.specs.Calls.{lineCount, headAndLines, writeInto, lengthOf}
+use Rattle.text_rules.specs.declared.Heading.{Heading}
+use Rattle.text_rules.proofs.FieldLaws.{prefixed, field-byte, field-end, and-true-parts}
+use Rattle.text_rules.proofs.RowLaws.{Fits, fits-none, fits-more, Figures, Each, fieldsLine, FieldsSpell, numbers-read, fields-read, row-spells, row-line, line-few, fieldsLines, LinesSpell, rows-read, rows-spell, rows-lines, lines-few, rows-fit}
+use Rattle.text_rules.proofs.LengthLaws.{even-columns, lines-known, lines-written}
+use Rattle.text_rules.proofs.ColumnLaws.{length-rows, column-rows}
 
 -- what can be written: numbers of 32 bits, and at most 1,024 positions, a code, an account and its shorts each
 pub record Writable (t : Series) : Type 0 where
@@ -240,16 +237,16 @@ left-out-only t w back =
     let same : u ≡ t = value-is (sym (left-out u wu (plain-codes u refl)) ∙ back) in
     plain-codes t (sym (ap (λ (s : Series). s .codes) same) ∙ ap (λ (s : Series). s .accounts) same)
 
--- ---- the two calls
+-- ---- the call that writes
 
 -- what writing wrote, where it answers with a length
-record Wrote (t : Series) (room n : ℕ) : Type 0 where
-  lists : Columns (t .codes) (t .accounts) (t .shorts)
-  fits : length (writeText t) ≤ MOST_BYTES
-  is : writeInto t room ≡ value (writeText t)
-  long : length (writeText t) ≡ n
+pub record Wrote (t : Series) (room n : ℕ) : Type 0 where
+  pub lists : Columns (t .codes) (t .accounts) (t .shorts)
+  pub fits : length (writeText t) ≤ MOST_BYTES
+  pub is : writeInto t room ≡ value (writeText t)
+  pub long : length (writeText t) ≡ n
 
-wrote : (t : Series) (room n : ℕ) → lengthOf (writeInto t room) ≡ value n → Wrote t room n
+pub wrote : (t : Series) (room n : ℕ) → lengthOf (writeInto t room) ≡ value n → Wrote t room n
 unfolding writeInto lengthOf textWith writeText
 wrote t room n e =
     let c : Bool = writesCodes t in
@@ -273,26 +270,3 @@ wrote t room n e =
 pub too-long : (t : Series) → Columns (t .codes) (t .accounts) (t .shorts) → MOST_BYTES < length (writeText t) → (room : ℕ) → writeInto t room ≡ refused 11
 unfolding writeInto writeText textWith
 too-long t l over room = rw (lines-written (writeHead (writesCodes t) (t .terms)) (writesCodes t) (t .codes) (t .accounts) (t .shorts) l, lt-ltb MOST_BYTES _ over)
-
--- where writing answered Written n and left the output new, reading the first n bytes of it into three lists that are long enough
--- answers with the same series, and the lists hold its positions and then what they held
-pub calls-round-trip :
-    (t : Series) → exercised t ≤ LARGEST → draw t ≤ LARGEST → Fits (t .codes) → Fits (t .accounts) → Fits (t .shorts)
-    → (old new : List ℕ) (n : ℕ) → value n ≡ lengthOf (writeInto t (length old)) → new ≡ after (writeInto t (length old)) (λ s. onto s old) old
-    → (C A H C′ A′ H′ : List ℕ) (r : Reading) → length (t .codes) ≤ length C → length (t .accounts) ≤ length A → length (t .shorts) ≤ length H
-    → readingOf r ≡ handed (readInto (take n new) (length C) (length A) (length H))
-    → C′ ≡ after (readInto (take n new) (length C) (length A) (length H)) (λ s. onto (s .codes) C) C
-    → A′ ≡ after (readInto (take n new) (length C) (length A) (length H)) (λ s. onto (s .accounts) A) A
-    → H′ ≡ after (readInto (take n new) (length C) (length A) (length H)) (λ s. onto (s .shorts) H) H
-    → (readingOf r ≡ value (record { terms = t .terms; positions = length (t .accounts) })) × (C′ ≡ onto (t .codes) C) × (A′ ≡ onto (t .accounts) A) × (H′ ≡ onto (t .shorts) H)
-unfolding onto readInto handed
-calls-round-trip t fe fd fc fa fh old new n answered left C A H C′ A′ H′ r roomC roomA roomH reads rc ra rh =
-    let w : Wrote t (length old) n = wrote t (length old) n (sym answered) in
-    let s : Text = writeText t in
-    let N : ℕ = length (t .accounts) in
-    let text : take n new ≡ s = ap (take n) (left ∙ rw (w .is)) ∙ take-at s (drop (length s) old) n (w .long) in
-    let back : readText (take n new) ≡ value t
-    = ap readText text ∙ round-trip t (record { exercised = fe; draw = fd; codes = fc; accounts = fa; shorts = fh; lists = w .lists }) (w .fits) in
-    let into : readInto (take n new) (length C) (length A) (length H) ≡ value t
-    = rw (back, le-ltb (length C) N (omega (arith, w .lists .codes)), le-ltb (length A) N roomA, le-ltb (length H) N (omega (arith, w .lists .shorts))) in
-    (reads ∙ rw into, rc ∙ rw into, ra ∙ rw into, rh ∙ rw into)

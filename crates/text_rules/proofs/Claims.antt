@@ -10,14 +10,14 @@ use Rattle.series.specs.Results.{Result, refused, value, _>>=_, status}
 use Rattle.series.specs.Series.{Series}
 use Rattle.series.specs.Sums.{listed}
 use Rattle.series.specs.declared.Method.{Method}
-use Rattle.series_text.specs.Numbers.{digit, digits, spelled, amountFrom, amount, numeral, number, decimalIn, decimal}
-use Rattle.series_text.specs.Fields.{Text, Read, ends, field, past, fieldBy, endBefore, readFields, writeNumber}
-use Rattle.series_text.specs.Rows.{numbers, readRow, readRows, writeRow, writeRows, rowsOf, column}
-use Rattle.series_text.specs.Names.{line1, line3, namesLine, headingOf, afterLine, headingOr, readNames}
-use Rattle.series_text.specs.Letters.{letter, methodAmong, methodBy, methodOf}
-use Rattle.series_text.specs.Text.{readTerms, readHead, readPositions, readText, writeTerms, writeHead, textWith, sameNumbers, writesCodes, writeText}
-use Rattle.series_text.specs.Calls.{readInto, evenly, lineCount, headAndLines, writeInto, lengthOf}
-use Rattle.series_text.specs.declared.names.Heading.{Heading}
+use Rattle.text_rules.specs.Numbers.{digit, digits, spelled, amountFrom, amount, numeral, number, decimalIn, decimal}
+use Rattle.text_rules.specs.Fields.{Text, Read, ends, field, past, fieldBy, endBefore, readFields, writeNumber}
+use Rattle.text_rules.specs.Rows.{numbers, readRow, readRows, writeRow, writeRows, rowsOf, column}
+use Rattle.text_rules.specs.Names.{line1, line3, namesLine, headingOf, afterLine, headingOr, readNames}
+use Rattle.text_rules.specs.Letters.{letter, methodAmong, methodBy, methodOf}
+use Rattle.text_rules.specs.Text.{readTerms, readHead, readPositions, readText, writeTerms, writeHead, textWith, sameNumbers, writesCodes, writeText}
+use Rattle.text_rules.specs.Calls.{readInto, evenly, lineCount, headAndLines, writeInto, lengthOf}
+use Rattle.text_rules.specs.declared.Heading.{Heading}
 
 -- the line `unfolding` names every definition that reading computes with
 reading : Text → Result Series

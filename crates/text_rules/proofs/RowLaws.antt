@@ -13,13 +13,13 @@ use Rattle.series.specs.Results.{refused, value, _>>=_}
 use Rattle.series.specs.Sums.{listed}
 use Rattle.series.proofs.ResultLaws.{never, value-is, stepped}
 use Rattle.series.proofs.SumLaws.{listed-cong}
-use Rattle.series_text.specs.Numbers.{LARGEST, MOST_DIGITS, digits, number, decimal}
-use Rattle.series_text.specs.Fields.{Text, Read, ends, field, past, fieldBy, endBefore, readFields, writeNumber}
-use Rattle.series_text.specs.Rows.{numbers, readRow, readRows, writeRow, writeRows, rowOf, rowsOf, column}
-use Rattle.series_text.proofs.ColumnLaws.{listed-all}
-use Rattle.series_text.proofs.DecimalLaws.{digits-few}
-use Rattle.series_text.proofs.NumberLaws.{field-spelled}
-use Rattle.series_text.proofs.SpellingLaws.{Spells, number-is, spells-reads, spells-digits, decimal-spells}
+use Rattle.text_rules.specs.Numbers.{LARGEST, MOST_DIGITS, digits, number, decimal}
+use Rattle.text_rules.specs.Fields.{Text, Read, ends, field, past, fieldBy, endBefore, readFields, writeNumber}
+use Rattle.text_rules.specs.Rows.{numbers, readRow, readRows, writeRow, writeRows, rowOf, rowsOf, column}
+use Rattle.text_rules.proofs.ColumnLaws.{listed-all}
+use Rattle.text_rules.proofs.DecimalLaws.{digits-few}
+use Rattle.text_rules.proofs.NumberLaws.{field-spelled}
+use Rattle.text_rules.proofs.SpellingLaws.{Spells, number-is, spells-reads, spells-digits, decimal-spells}
 
 -- every number of the list fits 32 bits
 abbrev pub Fits : List ℕ → Type 0

@@ -9,9 +9,9 @@ use lib.ListN.{length, take, drop}
 use lib.Seq.{length-take-le}
 use Rattle.series.specs.Results.{Result, refused, value, refuse, after}
 use Rattle.series.specs.Outputs.{onto}
-use Rattle.series_text.specs.Fields.{Text, Read}
-use Rattle.series_text.specs.Text.{Head, readHead, readPositions, readText}
-use Rattle.series_text.specs.Calls.{Handed, readInto, handed}
+use Rattle.text_rules.specs.Fields.{Text, Read}
+use Rattle.text_rules.specs.Text.{Head, readHead, readPositions, readText}
+use Rattle.text_rules.specs.Calls.{Handed, readInto, handed}
 
 -- what reading s hands back, and the lists that it leaves of cs, xs and ys
 abbrev pub ReadLeaves : Text → List ℕ → List ℕ → List ℕ → Result Handed → List ℕ → List ℕ → List ℕ → Type 0

@@ -4,8 +4,8 @@ use mathlib.Core.List.{List, [], _∷_, _++_, map}
 use lib.ListN.{length, getD}
 use Rattle.series.specs.Results.{Result, refused, value, _>>=_}
 use Rattle.series.specs.Sums.{listed}
-use Rattle.series_text.specs.Numbers.{number}
-use Rattle.series_text.specs.Fields.{Text, Read, endBefore, readFields, writeNumber}
+use Rattle.text_rules.specs.Numbers.{number}
+use Rattle.text_rules.specs.Fields.{Text, Read, endBefore, readFields, writeNumber}
 
 -- the fields as numbers, else 13
 unfoldable pub numbers : List Text → Result (List ℕ)

@@ -9,10 +9,10 @@ use native.Mathlib.Decide.{decLt}
 use borrow.Author.Tests.{le-leb}
 use lib.ListN.{length, replicate, length-append, length-replicate}
 use Rattle.series.specs.Results.{value}
-use Rattle.series_text.specs.Fields.{Text, ends, fieldBy}
-use Rattle.series_text.specs.Numbers.{LARGEST, MOST_DIGITS, digit, digits, amountFrom, amount, number, decimalIn, decimal}
-use Rattle.series_text.proofs.FieldLaws.{prefixed, prefixed-nil, prefixed-prefixed, field-byte, field-end, digits-read, and-true-parts, ends-digit, digits-append, amount-more}
-use Rattle.series_text.proofs.DecimalLaws.{decimal-small, decimal-large, digits-some}
+use Rattle.text_rules.specs.Fields.{Text, ends, fieldBy}
+use Rattle.text_rules.specs.Numbers.{LARGEST, MOST_DIGITS, digit, digits, amountFrom, amount, number, decimalIn, decimal}
+use Rattle.text_rules.proofs.FieldLaws.{prefixed, prefixed-nil, prefixed-prefixed, field-byte, field-end, digits-read, and-true-parts, ends-digit, digits-append, amount-more}
+use Rattle.text_rules.proofs.DecimalLaws.{decimal-small, decimal-large, digits-some}
 
 -- ---- the digits of a number are digits
 

@@ -8,7 +8,7 @@ use lib.ListN.{length, getD, take, set, length-append, List·getD-append, List·
 use lib.Seq.{getD-at, length-take-le, take-suc-set}
 use Rattle.series.specs.Sums.{listed}
 use Rattle.series.proofs.SumLaws.{length-listed, listed-cong}
-use Rattle.series_text.specs.Rows.{rowOf, rowsOf, column}
+use Rattle.text_rules.specs.Rows.{rowOf, rowsOf, column}
 
 -- as many rows as the first column has numbers
 pub length-rows : (c : List ℕ) (cs : List (List ℕ)) → length (rowsOf (c ∷ cs)) ≡ length c

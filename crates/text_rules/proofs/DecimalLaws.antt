@@ -11,7 +11,7 @@ use borrow.Author.Tests.{lt-ltb, le-ltb}
 use lib.Dec.{ltb}
 use lib.ListN.{length, drop, length-append}
 use lib.Seq.{drop-length, drop-at}
-use Rattle.series_text.specs.Numbers.{decimalIn, decimal}
+use Rattle.text_rules.specs.Numbers.{decimalIn, decimal}
 
 pub decimal-small : (k n : ℕ) → n < 10 → decimalIn (suc k) n ≡ (48 + n) ∷ []
 unfolding decimalIn

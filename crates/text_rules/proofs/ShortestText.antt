@@ -15,20 +15,20 @@ use Rattle.series.specs.Sums.{listed}
 use Rattle.series.specs.declared.Method.{Method}
 use Rattle.series.specs.declared.Terms.{Terms}
 use Rattle.series.proofs.ResultLaws.{never, value-is, stepped, not-refused}
-use Rattle.series_text.specs.Numbers.{decimal}
-use Rattle.series_text.specs.Fields.{Text, COMMA, Read, fieldBy, endBefore, readFields, writeNumber}
-use Rattle.series_text.specs.Rows.{numbers, readRows, writeRow, writeRows, rowOf, rowsOf, column}
-use Rattle.series_text.specs.Names.{line1, line3, namesLine, headingOf, coded, afterLine, headingOr, readNames}
-use Rattle.series_text.specs.Letters.{letter, methodAmong, methodBy, methodOf}
-use Rattle.series_text.specs.Parts.{Columns, Plain}
-use Rattle.series_text.specs.Text.{MOST_BYTES, MOST_LINES, readTerms, Head, readHead, lineWidth, seriesOf, readPositions, readText, writeTerms, writeHead, columns, textWith, writesCodes, writeText}
-use Rattle.series_text.specs.declared.names.Heading.{Heading}
-use Rattle.series_text.proofs.NumberLaws.{padded, padded-length}
-use Rattle.series_text.proofs.SpellingLaws.{Spells}
-use Rattle.series_text.proofs.RowLaws.{Fits, Each, each-so, Figures, Begins, field-is, fields-are, fieldsLine, FieldsSpell, numbers-are, spell-facts, fieldsLines, LinesSpell, spell-figures, Consists, rows-are, columnsFrom, rows-of-columns}
-use Rattle.series_text.proofs.ColumnLaws.{two-numbers}
-use Rattle.series_text.proofs.LengthLaws.{linesOf, lines-next-length, length-head}
-use Rattle.series_text.proofs.RoundTrip.{Writable, spelledTerms, spelledHead, spelledText, TextSpells, width-some, series-back, plain-codes, round-trip}
+use Rattle.text_rules.specs.Numbers.{decimal}
+use Rattle.text_rules.specs.Fields.{Text, COMMA, Read, fieldBy, endBefore, readFields, writeNumber}
+use Rattle.text_rules.specs.Rows.{numbers, readRows, writeRow, writeRows, rowOf, rowsOf, column}
+use Rattle.text_rules.specs.Names.{line1, line3, namesLine, headingOf, coded, afterLine, headingOr, readNames}
+use Rattle.text_rules.specs.Letters.{letter, methodAmong, methodBy, methodOf}
+use Rattle.text_rules.specs.Lists.{Columns, Plain}
+use Rattle.text_rules.specs.Text.{MOST_BYTES, MOST_LINES, readTerms, Head, readHead, lineWidth, seriesOf, readPositions, readText, writeTerms, writeHead, columns, textWith, writesCodes, writeText}
+use Rattle.text_rules.specs.declared.Heading.{Heading}
+use Rattle.text_rules.proofs.NumberLaws.{padded, padded-length}
+use Rattle.text_rules.proofs.SpellingLaws.{Spells}
+use Rattle.text_rules.proofs.RowLaws.{Fits, Each, each-so, Figures, Begins, field-is, fields-are, fieldsLine, FieldsSpell, numbers-are, spell-facts, fieldsLines, LinesSpell, spell-figures, Consists, rows-are, columnsFrom, rows-of-columns}
+use Rattle.text_rules.proofs.ColumnLaws.{two-numbers}
+use Rattle.text_rules.proofs.LengthLaws.{linesOf, lines-next-length, length-head}
+use Rattle.text_rules.proofs.RoundTrip.{Writable, spelledTerms, spelledHead, spelledText, TextSpells, width-some, series-back, plain-codes, round-trip}
 
 -- ---- a names line
 

@@ -11,10 +11,10 @@ use lib.Dec.{eqb, leb}
 use lib.ListN.{length}
 use Rattle.series.specs.Results.{value}
 use Rattle.series.proofs.ResultLaws.{not-refused}
-use Rattle.series_text.specs.Numbers.{LARGEST, MOST_DIGITS, digit, digits, spelled, amountFrom, amount, numeral, number, decimalIn, decimal}
-use Rattle.series_text.proofs.DecimalLaws.{decimal-small, decimal-large, digits-few}
-use Rattle.series_text.proofs.FieldLaws.{digits-read, and-true-parts, digit-bounds}
-use Rattle.series_text.proofs.NumberLaws.{padded, spelling-digits, spelling-reads}
+use Rattle.text_rules.specs.Numbers.{LARGEST, MOST_DIGITS, digit, digits, spelled, amountFrom, amount, numeral, number, decimalIn, decimal}
+use Rattle.text_rules.proofs.DecimalLaws.{decimal-small, decimal-large, digits-few}
+use Rattle.text_rules.proofs.FieldLaws.{digits-read, and-true-parts, digit-bounds}
+use Rattle.text_rules.proofs.NumberLaws.{padded, spelling-digits, spelling-reads}
 
 -- ---- a field that reads as a number
 

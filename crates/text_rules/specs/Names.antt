@@ -4,8 +4,8 @@ use mathlib.Core.List.{List, [], _∷_}
 use lib.Dec.{eqb}
 use Rattle.series.specs.Ascii.{ascii}
 use Rattle.series.specs.Results.{Result, refused, value, _>>=_}
-use Rattle.series_text.specs.Fields.{Text, Read}
-use Rattle.series_text.specs.declared.names.Heading.{Heading}
+use Rattle.text_rules.specs.Fields.{Text, Read}
+use Rattle.text_rules.specs.declared.Heading.{Heading}
 
 -- the line of each heading
 unfoldable pub namesLine : Heading → Text

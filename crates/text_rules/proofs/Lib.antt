@@ -1,0 +1,13 @@
+-- The text of a series: what is proved of the definitions (RoundTrip, ShortestText, SpellingLaws, Claims), and the laws behind it or cited by the proofs of the functions.
+pub mod RoundTrip
+pub mod ShortestText
+pub mod Claims
+pub mod RowLaws
+pub mod ColumnLaws
+pub mod FieldLaws
+pub mod NumberLaws
+pub mod SpellingLaws
+pub mod DecimalLaws
+pub mod CopyLaws
+pub mod ReadLaws
+pub mod LengthLaws

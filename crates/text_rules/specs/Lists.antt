@@ -1,0 +1,17 @@
+-- The lists of a series whose text is written or read.
+use Prim.Native.Nat.{ℕ, _≤_}
+use mathlib.Core.Path.{_≡_}
+use mathlib.Core.Bool.{Bool, false}
+use mathlib.Core.List.{List}
+use lib.ListN.{length}
+use Rattle.text_rules.specs.Text.{MOST_LINES}
+
+-- a code and a number of shorts for each account, and at most 1,024 accounts
+pub record Columns (codes′ accounts′ shorts′ : List ℕ) : Type 0 where
+  pub codes : length codes′ ≡ length accounts′
+  pub shorts : length shorts′ ≡ length accounts′
+  pub few : length accounts′ ≤ MOST_LINES
+
+-- without the code column each code is its account
+abbrev pub Plain : Bool → List ℕ → List ℕ → Type 0
+Plain c codes accounts = c ≡ false → codes ≡ accounts
