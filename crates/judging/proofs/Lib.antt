@@ -1,4 +1,3 @@
--- Laws of judging, and of a judged call.
-pub mod ChainLaws
+-- Laws of judging a call, and of a judged call.
 mod TableLaws
 pub mod CallLaws

@@ -4,14 +4,14 @@ use borrow.Author.Needs.{needs}
 use Rattle.judging.proofs.judge.Statement.{statement}
 use Rattle.judging.proofs.judge.Tie as tie
 
-judge-by-requires : tie.Need-judge-by-requires
-judge-by-requires c κs = search needs
+judge-requires : tie.Need-judge-requires
+judge-requires c κs = search needs
 
 judge-after-requires : tie.Need-judge-after-requires
 judge-after-requires c κs = search needs
 
 returns : tie.Need-returns
-returns c = let a = c .before .before .before .before .before .args in judged-parts (record { terms = a .terms; codes = a .codes .now; accounts = a .accounts .now; shorts = a .shorts .now }) (a .room) _ _ (c .before .judge-by .ensures) (c .judge-after .ensures)
+returns c = let a = c .before .before .before .before .before .args in judged-parts (record { terms = a .terms; codes = a .codes .now; accounts = a .accounts .now; shorts = a .shorts .now }) (a .room) _ _ (c .before .judge .ensures) (c .judge-after .ensures)
 
 pub judge-spec : {M : Type 1} → statement M
-judge-spec = tie.close (tie.spec judge-by-requires judge-after-requires returns)
+judge-spec = tie.close (tie.spec judge-requires judge-after-requires returns)

@@ -1,6 +1,7 @@
 -- `judge_after` meets its contract: a refusal stands, and T is handed on.
 use mathlib.Core.Path.{sym, ap, _∙_}
-use Rattle.judging.specs.Judged.{judgedOf, judgedAfter}
+use Rattle.list_judging.specs.Judged.{judgedOf}
+use Rattle.judging.specs.Judged.{judgedAfter}
 use borrow.Author.Needs.{needs}
 use Rattle.judging.proofs.judge_after.Statement.{statement}
 use Rattle.judging.proofs.judge_after.Tie as tie

@@ -1,6 +1,6 @@
 -- `judge_terms` meets its contract: S, then what is decided before the draw, then the draw.
 use borrow.Author.Needs.{needs}
-use Rattle.judging.specs.Judged.{judgedOf}
+use Rattle.list_judging.specs.Judged.{judgedOf}
 use Rattle.judging.proofs.TableLaws.{refused-nothing, refused-above, decided, judged-draw}
 use Rattle.judging.proofs.judge_terms.Statement.{statement}
 use Rattle.judging.proofs.judge_terms.Tie as tie
