@@ -4,6 +4,9 @@ use mathlib.Core.Path.{_≡_, refl, sym, ap, ap₂, _∙_}
 use mathlib.Core.Bool.{true, false}
 use mathlib.Core.Option.{Option, none, some}
 use mathlib.Core.List.{List, [], _∷_, _++_}
+use mathlib.Core.Logic.{⊎-elim}
+use denote.Enum.Declared.{tagOf}
+use types.Run.{OneOf}
 use native.Mathlib.Omega.{arith}
 use lib.Dec.{eqb}
 use lib.ListN.{length, take, drop, set}
@@ -19,11 +22,12 @@ use Rattle.series.specs.Call.{INCREMENT, assigned, further}
 use Rattle.series.specs.Fair.{AllocatingCall}
 use Rattle.series.specs.declared.Method.{Method}
 use Rattle.series.specs.declared.Terms.{Terms}
+use Rattle.series.proofs.Method.{the-type}
 use Rattle.series.proofs.CallLaws.{not-wheel, codes-unseen, wheel-judged, lottery-judged, wheel-draw, lottery-draw, starting-on}
 use Rattle.series.proofs.RemainderLaws.{remainder-on}
 use Rattle.allocation.specs.Stretch.{Sized}
 use Rattle.allocation.specs.Blocks.{WheelCall}
-use Rattle.allocation.specs.Lottery.{LotteryCall, methodFor, placeBy, Leads, DrawCall}
+use Rattle.allocation.specs.Lottery.{LotteryCall, startBy, methodFor, placeBy, Leads, DrawCall}
 use Rattle.allocation.specs.declared.lottery.StartBy.{StartBy}
 use Rattle.judging.specs.Judged.{JudgedSeries}
 use Rattle.judging.specs.Assigning.{Assigns}
@@ -45,6 +49,20 @@ leads-most by draw e leads = (rw e at leads) .high
 pub started-not-wheel : (by : StartBy) → methodFor by ≡ Method.Wheel → ⊥
 started-not-wheel StartBy.TenThousandths = not-wheel Method.Lottery refl
 started-not-wheel StartBy.Remainder = not-wheel Method.RemainderDraw refl
+
+-- a method other than R, whose tag is 0 to 2
+pub starts-otherwise : (m : Method) → OneOf (0 ∷ 1 ∷ 2 ∷ []) (tagOf the-type m) → StartBy.TenThousandths ≡ startBy m
+starts-otherwise Method.Wheel k = refl
+starts-otherwise Method.ProRata k = refl
+starts-otherwise Method.Lottery k = refl
+starts-otherwise Method.RemainderDraw k = absurd (⊎-elim (λ z. omega arith) (⊎-elim (λ z. omega arith) (λ z. omega arith)) k)
+
+-- L or R, whose tag is 2 or 3
+pub started-method : (m : Method) → OneOf (2 ∷ 3 ∷ []) (tagOf the-type m) → m ≡ methodFor (startBy m)
+started-method Method.Wheel k = absurd (⊎-elim (λ z. omega arith) (λ z. omega arith) k)
+started-method Method.ProRata k = absurd (⊎-elim (λ z. omega arith) (λ z. omega arith) k)
+started-method Method.Lottery k = refl
+started-method Method.RemainderDraw k = refl
 
 -- the definitions of a call by L or R
 started-further : (by : StartBy) (s : Series) → method s ≡ methodFor by → further s ≡ startUsed (s .shorts) (exercised s) (placeBy by (held s) (draw s))

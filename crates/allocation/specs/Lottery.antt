@@ -6,6 +6,7 @@ use mathlib.Core.Option.{Option, none, some}
 use mathlib.Core.List.{List}
 use lib.ListN.{length}
 use Rattle.series.specs.Places.{total, OnWheel}
+use Rattle.series.specs.Series.{byMethod}
 use Rattle.series.specs.Lottery.{startingPlace, unstarted}
 use Rattle.series.specs.RemainderDraw.{remainderPlace}
 use Rattle.series.specs.declared.Method.{Method}
@@ -18,6 +19,10 @@ pub record LotteryCall (hs out : List ℕ) (S p : ℕ) : Type 0 where
   pub sized : Sized hs out
   pub most : S ≤ total hs
   pub start : OnWheel (total hs) p
+
+-- how the draw leads to a starting place under L or R; W and P do not ask
+abbrev pub startBy : Method → StartBy
+startBy m = byMethod m StartBy.TenThousandths StartBy.TenThousandths StartBy.TenThousandths StartBy.Remainder
 
 -- the method that goes by such a start: L or R
 abbrev pub methodFor : StartBy → Method

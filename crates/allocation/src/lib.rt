@@ -20,7 +20,7 @@ ghost use Rattle.series.specs.Answers.{answerOf};
 ghost use Rattle.series.specs.Results.{value};
 ghost use Rattle.series.specs.Fair.{AllocatingCall};
 ghost use Rattle.series.specs.declared.Method.{Method as Method·};
-ghost use Rattle.allocation.specs.Lottery.{methodFor, startOf};
+ghost use Rattle.allocation.specs.Lottery.{startBy, methodFor, startOf};
 
 // The assignment increment.
 const INCREMENT: u32 = 25;
@@ -55,6 +55,16 @@ fn allocate_wheel(
             );
             Answer::Wheel { total, blocks }
         }
+    }
+}
+
+// How a draw leads to a starting place under L or R; W and P do not ask.
+fn start_by(method: Method) -> StartBy
+    ensures { λ r. ⌜ r ≡ startBy method ⌝ }
+{
+    match method {
+        Method::RemainderDraw => StartBy::Remainder,
+        _ => StartBy::TenThousandths,
     }
 }
 
@@ -133,25 +143,9 @@ pub fn allocate(
     match method {
         Method::Wheel => allocate_wheel(exercised, draw, codes, accounts, shorts, amounts),
         Method::ProRata => pro_rata::allocate(exercised, draw, accounts, shorts, amounts),
-        Method::Lottery => {
-            allocate_started(
-                StartBy::TenThousandths,
-                exercised,
-                draw,
-                accounts,
-                shorts,
-                amounts,
-            )
-        }
-        Method::RemainderDraw => {
-            allocate_started(
-                StartBy::Remainder,
-                exercised,
-                draw,
-                accounts,
-                shorts,
-                amounts,
-            )
+        _ => {
+            let by = start_by(method);
+            allocate_started(by, exercised, draw, accounts, shorts, amounts)
         }
     }
 }

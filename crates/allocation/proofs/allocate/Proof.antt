@@ -1,7 +1,10 @@
 -- `allocate` meets its contract: the call is that of the method.
+use mathlib.Core.Path.{sym, ap, _∙_}
 use borrow.Author.Needs.{needs}
 use Rattle.series.specs.declared.Method.{Method}
 use Rattle.judging.proofs.CallLaws.{by-method}
+use Rattle.allocation.specs.Lottery.{methodFor}
+use Rattle.allocation.proofs.AllocateLaws.{started-method}
 use Rattle.allocation.proofs.allocate.Statement.{statement}
 use Rattle.allocation.proofs.allocate.Tie as tie
 
@@ -17,17 +20,11 @@ enum-told-2 c = search needs
 allocate-requires : tie.Need-allocate-requires
 allocate-requires c κs = search needs
 
-enum-told-3 : tie.Need-enum-told-3
-enum-told-3 c = search needs
+start-by-requires : tie.Need-start-by-requires
+start-by-requires c κs = search needs
 
 allocate-started-requires : tie.Need-allocate-started-requires
 allocate-started-requires c κs = search needs
-
-enum-told-4 : tie.Need-enum-told-4
-enum-told-4 c = search needs
-
-allocate-started-requires-2 : tie.Need-allocate-started-requires-2
-allocate-started-requires-2 c κs = search needs
 
 same-length : tie.Need-same-length
 same-length c = search needs
@@ -48,14 +45,8 @@ same-length-3 c = search needs
 
 returns-3 : tie.Need-returns-3
 returns-3 c = let a = c .before .before .before .before .before .before .before .before .before .before .before .args in
-    by-method (a .terms) Method.Lottery (a .codes .now) (a .accounts .now) (a .shorts .now) _ (a .amounts .now) _ (c .before .before .before .before .enum-told3 .given .1) (c .before .before .allocate-started .ensures (a .codes .now))
-
-same-length-4 : tie.Need-same-length-4
-same-length-4 c = search needs
-
-returns-4 : tie.Need-returns-4
-returns-4 c = let a = c .before .before .before .before .before .before .before .before .before .before .before .args in
-    by-method (a .terms) Method.RemainderDraw (a .codes .now) (a .accounts .now) (a .shorts .now) _ (a .amounts .now) _ (c .before .before .before .before .enum-told4 .given .1) (c .before .before .allocate-started2 .ensures (a .codes .now))
+    let by = c .before .before .before .before .start-by in
+    by-method (a .terms) (methodFor (by .result)) (a .codes .now) (a .accounts .now) (a .shorts .now) _ (a .amounts .now) _ (started-method (a .terms .method) (c .before .before .before .before .before .match .keys3) ∙ ap methodFor (sym (by .ensures))) (c .before .before .allocate-started .ensures (a .codes .now))
 
 pub allocate-spec : {M : Type 1} → statement M
 allocate-spec =
@@ -65,15 +56,11 @@ allocate-spec =
     allocate-wheel-requires
     enum-told-2
     allocate-requires
-    enum-told-3
+    start-by-requires
     allocate-started-requires
-    enum-told-4
-    allocate-started-requires-2
     same-length
     returns
     same-length-2
     returns-2
     same-length-3
-    returns-3
-    same-length-4
-    returns-4)
+    returns-3)
