@@ -15,7 +15,6 @@ use series::Terms;
 ghost use Prim.Native.Nat.{ℕ};
 ghost use mathlib.Core.Path.{_≡_};
 ghost use mathlib.Core.List.{List};
-ghost use lib.ListN.{length};
 ghost use Rattle.series.specs.Answers.{answerOf};
 ghost use Rattle.series.specs.Results.{value};
 ghost use Rattle.series.specs.Fair.{AllocatingCall};
@@ -68,16 +67,6 @@ fn start_by(method: Method) -> StartBy
     }
 }
 
-// The method that goes by such a start.
-fn method_for(by: StartBy) -> Method
-    ensures { λ r. ⌜ r ≡ methodFor by ⌝ }
-{
-    match by {
-        StartBy::TenThousandths => Method::Lottery,
-        StartBy::Remainder => Method::RemainderDraw,
-    }
-}
-
 // What such a call answers.
 fn answer_for(by: StartBy, total: Contracts, start: Start) -> Answer
     ensures { λ r. ⌜ answerOf r ≡ value (record { method = methodFor by; total = total .0; further = startOf start }) ⌝ }
@@ -97,19 +86,15 @@ fn answer_for(by: StartBy, total: Contracts, start: Start) -> Answer
 // The call by L or R, whatever the codes.
 fn allocate_started(
     by: StartBy,
-    exercised: Contracts,
-    draw: u32,
+    terms: Terms,
     accounts: &[u32],
     shorts: &[u32],
     amounts: &mut [u32],
 ) -> Answer
-    ensures { λ r. ⌜ ((codes : List ℕ) → AllocatingCall (record { terms = record { method = methodFor by; exercised = exercised; draw = draw }; codes = codes; accounts = now (accounts .entry); shorts = now (shorts .entry) }) (answerOf r) (now (amounts .entry)) (now (amounts .exit))) ⌝ }
+    requires { ⌜ terms .method ≡ methodFor by ⌝ }
+    ensures { λ r. ⌜ ((codes : List ℕ) → AllocatingCall (record { terms = terms; codes = codes; accounts = now (accounts .entry); shorts = now (shorts .entry) }) (answerOf r) (now (amounts .entry)) (now (amounts .exit))) ⌝ }
 {
-    let terms = Terms {
-        method: method_for(by),
-        exercised,
-        draw,
-    };
+    let exercised = terms.exercised;
     match judging::judge_uncoded(terms, accounts, shorts, amounts.len()) {
         Judged::Refused(refusal) => Answer::Refused(refusal),
         Judged::Accepted(total) => {
@@ -119,7 +104,7 @@ fn allocate_started(
                 shorts,
                 total,
                 exercised,
-                draw,
+                terms.draw,
                 &mut amounts[..n],
             );
             answer_for(by, total, start)
@@ -145,7 +130,7 @@ pub fn allocate(
         Method::ProRata => pro_rata::allocate(exercised, draw, accounts, shorts, amounts),
         _ => {
             let by = start_by(method);
-            allocate_started(by, exercised, draw, accounts, shorts, amounts)
+            allocate_started(by, terms, accounts, shorts, amounts)
         }
     }
 }

@@ -1,9 +1,8 @@
 -- The ranges, filled in from left to right.
-use Prim.Native.Nat.{ℕ, suc, _+_, _≤_, _<_}
+use Prim.Native.Nat.{ℕ, _+_, _≤_, _<_}
 use mathlib.Core.Path.{_≡_, refl, sym, ap, _∙_}
 use mathlib.Core.List.{List, [], _∷_}
 use native.Mathlib.Omega.{arith}
-use native.Mathlib.Nat.{le-refl}
 use lib.ListN.{length, getD, set}
 use Rattle.series.specs.Sums.{listed}
 use Rattle.series.specs.Places.{total, before, last}
@@ -12,7 +11,7 @@ use Rattle.assignment_text.specs.Printed.{rangeColumns}
 use Rattle.series.proofs.ListLaws.{filled, fill-none, fill-more, fill-length, fill-all}
 use Rattle.series.proofs.SumLaws.{length-listed, getD-listed, listed-cong}
 use Rattle.series.proofs.RangeLaws.{ranges-within}
-use Rattle.series.proofs.PlaceLaws.{before-zero, before-suc, before-all, before-mono}
+use Rattle.series.proofs.PlaceLaws.{before-zero, before-suc, before-all}
 
 -- what is filled in for position i
 abbrev pub firstOf : List ℕ → ℕ → ℕ
@@ -45,10 +44,8 @@ module _ (hs firsts₀ lasts₀ firsts lasts : List ℕ) (passed i : ℕ) (lf : 
 
     -- no number passes T by more than one
     pub fill-fits : (passed + getD hs i 0 ≤ total hs) × (passed ≤ total hs)
-    fill-fits =
-        let rest = before-mono hs (suc i) (length hs) lt (le-refl (length hs)) in
-        let up = before-mono hs i (length hs) (f .up) (le-refl (length hs)) in
-        (omega (arith, sum-next, before-suc hs i lt, before-all hs), omega (arith, f .sum, before-all hs))
+    unfolding firstRange
+    fill-fits = let within = ranges-within hs i lt in (omega (arith, sum-next, within .1), omega (arith, f .sum, within .0))
 
     pub fill-next : Filling hs firsts₀ lasts₀ (set firsts i (passed + 1)) (set lasts i (passed + getD hs i 0)) (passed + getD hs i 0) (i + 1)
     unfolding firstRange

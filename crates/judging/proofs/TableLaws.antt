@@ -1,17 +1,16 @@
 -- The rows of the table, as the code tries them.
 use Prim.Native.Nat.{ℕ, _≤_, _<_}
 use mathlib.Core.Path.{_≡_, refl, sym, ap, _∙_}
-use mathlib.Core.Bool.{Bool, true, false, not, _||_, cond}
+use mathlib.Core.Bool.{Bool, true, false, not, cond}
 use mathlib.Core.List.{List, [], _++_}
 use native.Mathlib.Omega.{arith}
 use native.Mathlib.Decide.{decLe}
-use lib.Dec.{eqb, leb}
+use lib.Dec.{leb}
 use lib.ListN.{length}
 use borrow.Author.Tests.{lt-ltb, le-ltb, le-leb, lt-leb, eq-eqb, ne-eqb}
 use Rattle.series.specs.Results.{Result, refused, value, _>>=_}
 use Rattle.series.specs.Places.{total}
 use Rattle.series.specs.Series.{Series, method, exercised, held, orderedBy, order}
-use Rattle.series.specs.Lottery.{unstarted}
 use Rattle.series.specs.Refusals.{Row, _⟶_∣_, first, NoneApplies, exercisedRows, outside, undrawn, drawRows, thenDrawRows, listRows, rows, verdict}
 use Rattle.series.specs.declared.Method.{Method}
 use Rattle.series.specs.declared.Terms.{Terms}
@@ -47,14 +46,6 @@ module _ (t : Terms) (T : ℕ) (b : Bool) where
   unfolding drawRows
   lottery-drawn e d = rw e (sym (drawn 10000 (t .draw) T b d))
 
-pub pro-rata-drawn : (t : Terms) (T : ℕ) → t .method ≡ Method.ProRata → value T ≡ first (drawRows t T) T
-unfolding drawRows first
-pro-rata-drawn t T e = rw e
-
-pub remainder-drawn : (t : Terms) (T : ℕ) → t .method ≡ Method.RemainderDraw → value T ≡ first (drawRows t T) T
-unfolding drawRows first
-remainder-drawn t T e = rw e
-
 -- the draw is taken, or it is refused
 pub draw-taken : (T : ℕ) (b : Bool) → b ≡ true → value T ≡ first (not b ⟶ 10 ∣ []) T
 unfolding first
@@ -63,25 +54,6 @@ draw-taken T b e = rw e
 pub draw-refused : (T : ℕ) (b : Bool) → b ≡ false → refused 10 ≡ first (not b ⟶ 10 ∣ []) T
 unfolding first
 draw-refused T b e = rw e
-
--- ---- decided before the draw
-
-module _ (t : Terms) (T n : ℕ) where
-  pub wheel-undrawn : t .method ≡ Method.Wheel → eqb (t .exercised .0) T ≡ undrawn t T n
-  unfolding undrawn
-  wheel-undrawn e = rw e
-
-  pub pro-rata-undrawn : t .method ≡ Method.ProRata → false ≡ undrawn t T n
-  unfolding undrawn
-  pro-rata-undrawn e = rw e
-
-  pub lottery-undrawn : t .method ≡ Method.Lottery → (eqb (t .exercised .0) T || eqb n 1) ≡ undrawn t T n
-  unfolding undrawn unstarted
-  lottery-undrawn e = rw e
-
-  pub remainder-undrawn : t .method ≡ Method.RemainderDraw → (eqb (t .exercised .0) T || eqb n 1) ≡ undrawn t T n
-  unfolding undrawn unstarted
-  remainder-undrawn e = rw e
 
 -- ---- what is exercised
 

@@ -30,11 +30,6 @@ pub length-number : (n c : ℕ) → length (writeNumber n c) ≡ length (decimal
 unfolding writeNumber
 length-number n c = length-append (decimal n) (c ∷ [])
 
--- a line is its first number and the line of the others
-pub length-row : (n : ℕ) (ns : List ℕ) → length (writeRow (n ∷ ns)) ≡ length (decimal n) + 1 + length (writeRow ns)
-unfolding writeRow
-length-row n ns = length-append (writeNumber n (endBefore (length ns))) (writeRow ns) ∙ ap (_+ length (writeRow ns)) (length-number n (endBefore (length ns)))
-
 -- ---- a row, from number i on
 
 -- number i with the byte that ends its field
@@ -53,6 +48,10 @@ row-next-length row i lt =
     ap length (row-next row i lt)
     ∙ length-append (numberAt row i) (writeRow (drop (i + 1) row))
     ∙ ap (_+ length (writeRow (drop (i + 1) row))) (length-number (getD row i 0) (endBefore (length row - i - 1)))
+
+-- the whole line
+pub length-row : (n : ℕ) (ns : List ℕ) → length (writeRow (n ∷ ns)) ≡ length (decimal n) + 1 + length (writeRow ns)
+length-row n ns = row-next-length (n ∷ ns) 0 (omega arith)
 
 -- nothing is left after the last number
 pub row-done : (row : List ℕ) (i : ℕ) → length row ≤ i → writeRow (drop i row) ≡ []

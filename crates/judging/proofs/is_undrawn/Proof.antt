@@ -1,6 +1,8 @@
 -- `is_undrawn` meets its contract: each method's own case.
 use borrow.Author.Needs.{needs}
-use Rattle.judging.proofs.TableLaws.{wheel-undrawn, pro-rata-undrawn, lottery-undrawn, remainder-undrawn}
+use mathlib.Core.Path.{refl}
+use Rattle.series.specs.Lottery.{unstarted}
+use Rattle.series.specs.Refusals.{undrawn}
 use Rattle.judging.proofs.is_undrawn.Statement.{statement}
 use Rattle.judging.proofs.is_undrawn.Tie as tie
 
@@ -17,16 +19,20 @@ enum-told-4 : tie.Need-enum-told-4
 enum-told-4 c = search needs
 
 returns : tie.Need-returns
-returns c = wheel-undrawn (c .before .before .before .before .args .terms) (c .before .before .before .before .args .total .0) (c .before .before .before .before .args .positions) (c .enum-told .given .1)
+unfolding undrawn unstarted
+returns c = rw (c .enum-told .given .1) refl
 
 returns-2 : tie.Need-returns-2
-returns-2 c = pro-rata-undrawn (c .before .before .before .before .args .terms) (c .before .before .before .before .args .total .0) (c .before .before .before .before .args .positions) (c .enum-told2 .given .1)
+unfolding undrawn unstarted
+returns-2 c = rw (c .enum-told2 .given .1) refl
 
 returns-3 : tie.Need-returns-3
-returns-3 c = lottery-undrawn (c .before .before .before .before .args .terms) (c .before .before .before .before .args .total .0) (c .before .before .before .before .args .positions) (c .enum-told3 .given .1)
+unfolding undrawn unstarted
+returns-3 c = rw (c .enum-told3 .given .1) refl
 
 returns-4 : tie.Need-returns-4
-returns-4 c = remainder-undrawn (c .before .before .before .before .args .terms) (c .before .before .before .before .args .total .0) (c .before .before .before .before .args .positions) (c .enum-told4 .given .1)
+unfolding undrawn unstarted
+returns-4 c = rw (c .enum-told4 .given .1) refl
 
 pub is-undrawn-spec : {M : Type 1} → statement M
 is-undrawn-spec =

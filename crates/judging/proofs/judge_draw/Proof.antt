@@ -1,7 +1,8 @@
 -- `judge_draw` meets its contract: the one row of the method's draw.
 use borrow.Author.Needs.{needs}
-use mathlib.Core.Path.{_∙_}
-use Rattle.judging.proofs.TableLaws.{wheel-drawn, pro-rata-drawn, lottery-drawn, remainder-drawn, draw-taken, draw-refused}
+use mathlib.Core.Path.{refl, _∙_}
+use Rattle.judging.proofs.TableLaws.{wheel-drawn, lottery-drawn, draw-taken, draw-refused}
+use Rattle.series.specs.Refusals.{first, drawRows}
 use Rattle.judging.proofs.judge_draw.Statement.{statement}
 use Rattle.judging.proofs.judge_draw.Tie as tie
 
@@ -19,7 +20,8 @@ enum-told-2 : tie.Need-enum-told-2
 enum-told-2 c = search needs
 
 returns-2 : tie.Need-returns-2
-returns-2 c = pro-rata-drawn (c .before .before .args .terms) (c .before .before .args .total .0) (c .enum-told2 .given .1)
+unfolding drawRows first
+returns-2 c = rw (c .enum-told2 .given .1) refl
 
 enum-told-3 : tie.Need-enum-told-3
 enum-told-3 c = search needs
@@ -35,7 +37,8 @@ enum-told-4 : tie.Need-enum-told-4
 enum-told-4 c = search needs
 
 returns-4 : tie.Need-returns-4
-returns-4 c = remainder-drawn (c .before .before .args .terms) (c .before .before .args .total .0) (c .enum-told4 .given .1)
+unfolding drawRows first
+returns-4 c = rw (c .enum-told4 .given .1) refl
 
 returns-5 : tie.Need-returns-5
 returns-5 c = let a = c .before .before .before .before .args in
