@@ -15,6 +15,7 @@ use series::Terms;
 ghost use Prim.Native.Nat.{ℕ};
 ghost use mathlib.Core.Path.{_≡_};
 ghost use mathlib.Core.List.{List};
+ghost use lib.ListN.{length};
 ghost use Rattle.series.specs.Answers.{answerOf};
 ghost use Rattle.series.specs.Results.{value};
 ghost use Rattle.series.specs.Fair.{AllocatingCall};
@@ -67,6 +68,16 @@ fn start_by(method: Method) -> StartBy
     }
 }
 
+// The method that goes by such a start.
+fn method_for(by: StartBy) -> Method
+    ensures { λ r. ⌜ r ≡ methodFor by ⌝ }
+{
+    match by {
+        StartBy::TenThousandths => Method::Lottery,
+        StartBy::Remainder => Method::RemainderDraw,
+    }
+}
+
 // What such a call answers.
 fn answer_for(by: StartBy, total: Contracts, start: Start) -> Answer
     ensures { λ r. ⌜ answerOf r ≡ value (record { method = methodFor by; total = total .0; further = startOf start }) ⌝ }
@@ -86,15 +97,19 @@ fn answer_for(by: StartBy, total: Contracts, start: Start) -> Answer
 // The call by L or R, whatever the codes.
 fn allocate_started(
     by: StartBy,
-    terms: Terms,
+    exercised: Contracts,
+    draw: u32,
     accounts: &[u32],
     shorts: &[u32],
     amounts: &mut [u32],
 ) -> Answer
-    requires { ⌜ terms .method ≡ methodFor by ⌝ }
-    ensures { λ r. ⌜ ((codes : List ℕ) → AllocatingCall (record { terms = terms; codes = codes; accounts = now (accounts .entry); shorts = now (shorts .entry) }) (answerOf r) (now (amounts .entry)) (now (amounts .exit))) ⌝ }
+    ensures { λ r. ⌜ ((codes : List ℕ) → AllocatingCall (record { terms = record { method = methodFor by; exercised = exercised; draw = draw }; codes = codes; accounts = now (accounts .entry); shorts = now (shorts .entry) }) (answerOf r) (now (amounts .entry)) (now (amounts .exit))) ⌝ }
 {
-    let exercised = terms.exercised;
+    let terms = Terms {
+        method: method_for(by),
+        exercised,
+        draw,
+    };
     match judging::judge_uncoded(terms, accounts, shorts, amounts.len()) {
         Judged::Refused(refusal) => Answer::Refused(refusal),
         Judged::Accepted(total) => {
@@ -104,7 +119,7 @@ fn allocate_started(
                 shorts,
                 total,
                 exercised,
-                terms.draw,
+                draw,
                 &mut amounts[..n],
             );
             answer_for(by, total, start)
@@ -130,7 +145,7 @@ pub fn allocate(
         Method::ProRata => pro_rata::allocate(exercised, draw, accounts, shorts, amounts),
         _ => {
             let by = start_by(method);
-            allocate_started(by, terms, accounts, shorts, amounts)
+            allocate_started(by, exercised, draw, accounts, shorts, amounts)
         }
     }
 }

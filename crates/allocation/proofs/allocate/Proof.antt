@@ -24,8 +24,7 @@ start-by-requires : tie.Need-start-by-requires
 start-by-requires c κs = search needs
 
 allocate-started-requires : tie.Need-allocate-started-requires
-allocate-started-requires c κs = let by = c .before .start-by in
-    started-method (c .before .before .before .before .before .before .before .before .args .terms .method) (c .before .before .match .keys3) ∙ ap methodFor (sym (by .ensures))
+allocate-started-requires c κs = search needs
 
 same-length : tie.Need-same-length
 same-length c = search needs
@@ -45,7 +44,9 @@ same-length-3 : tie.Need-same-length-3
 same-length-3 c = search needs
 
 returns-3 : tie.Need-returns-3
-returns-3 c = c .before .before .allocate-started .ensures (c .before .before .before .before .before .before .before .before .before .before .before .args .codes .now)
+returns-3 c = let a = c .before .before .before .before .before .before .before .before .before .before .before .args in
+    let by = c .before .before .before .before .start-by in
+    by-method (a .terms) (methodFor (by .result)) (a .codes .now) (a .accounts .now) (a .shorts .now) _ (a .amounts .now) _ (started-method (a .terms .method) (c .before .before .before .before .before .match .keys3) ∙ ap methodFor (sym (by .ensures))) (c .before .before .allocate-started .ensures (a .codes .now))
 
 pub allocate-spec : {M : Type 1} → statement M
 allocate-spec =
