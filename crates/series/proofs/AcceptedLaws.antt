@@ -84,7 +84,7 @@ unfolding Accepted redrawn
 accepted-any s d room room2 ok = subst NoneApplies (aside-rows s room ∙ sym (aside-rows (redrawn d s) room2)) ok
 
 -- positions that no row turns away have a sum of at most 10,000,000
-positions-total : (m : Method) (earlier : List ℕ) (before sum : ℕ) (order accounts shorts : List ℕ) → length accounts ≡ length shorts → length order ≡ length shorts → sum ≤ MOST_CONTRACTS
+pub positions-total : (m : Method) (earlier : List ℕ) (before sum : ℕ) (order accounts shorts : List ℕ) → length accounts ≡ length shorts → length order ≡ length shorts → sum ≤ MOST_CONTRACTS
     → NoneApplies (positionRows m earlier before sum order accounts shorts) → sum + total shorts ≤ MOST_CONTRACTS
 unfolding positionRows total NoneApplies
 positions-total m earlier before sum ks rest [] la lk s h = omega arith

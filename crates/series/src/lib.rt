@@ -23,7 +23,7 @@ pub struct Terms {
     pub draw: u32,
 }
 
-// Why a call is turned away, in the order of the numbers 1 to 19 of documents 01 and 02.
+// Why a call is turned away, in the order of the numbers 1 to 20 of documents 01 and 02.
 pub enum Refusal {
     LengthsDiffer,
     TooManyPositions,
@@ -44,6 +44,7 @@ pub enum Refusal {
     ClosingPurchasesAboveShort,
     ExercisedAboveLimit,
     AccountRepeated,
+    LastNotAbove,
 }
 
 // What the allocating call answers: T with the method's one further number, or a refusal.
@@ -103,5 +104,6 @@ pub fn number(refusal: Refusal) -> u32
         Refusal::ClosingPurchasesAboveShort => 17,
         Refusal::ExercisedAboveLimit => 18,
         Refusal::AccountRepeated => 19,
+        Refusal::LastNotAbove => 20,
     }
 }

@@ -1,0 +1,4 @@
+-- Laws of the two forms of a list, and known listings.
+pub mod FormLaws
+pub mod LastRows
+pub mod FillLaws

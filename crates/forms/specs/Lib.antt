@@ -1,0 +1,2 @@
+-- The form of a list, and the calls in either form.
+pub mod Forms

@@ -1,0 +1,2 @@
+-- Laws of the calls in either form.
+mod ListingLaws
