@@ -191,6 +191,10 @@ other-length : (f : Form) (ns : List ℕ) → length (otherNumbers f ns) ≡ len
 other-length Form.Shorts ns = length-sums 0 ns
 other-length Form.LastNumbers ns = length-differences 0 ns
 
+-- a number for each position, as before
+pub changed-length : (l l′ : Listing) → changed l ≡ value l′ → length (l′ .numbers) ≡ length (l .numbers)
+changed-length l l′ h = subst (λ x. length (x .numbers) ≡ length (l .numbers)) (change-is l l′ h .other) (other-length (l .form) (l .numbers))
+
 -- a refusal that is not 6 is the same in either form
 pub same-number : (f : Form) (n : ℕ) → eqb n 6 ≡ false → numberIn f n ≡ n
 same-number Form.Shorts n e = refl

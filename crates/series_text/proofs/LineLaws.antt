@@ -18,9 +18,10 @@ use Rattle.series.proofs.ResultLaws.{never}
 use Rattle.text_rules.specs.Numbers.{number}
 use Rattle.text_rules.specs.Fields.{Text, COMMA, NEWLINE, Read, field, past, fieldBy, endBefore, readFields}
 use Rattle.text_rules.specs.Rows.{numbers, readRow, readRows, rowsOf, column}
-use Rattle.text_rules.specs.Names.{line1, line3, coded, namesLine, afterLine, headingOr, readNames}
+use Rattle.forms.specs.declared.Form.{Form}
+use Rattle.text_rules.specs.Names.{line1, line3, formOf, coded, namesLine, afterLine, headingOr, readNames}
 use Rattle.text_rules.specs.Letters.{methodBy, methodOf}
-use Rattle.text_rules.specs.Text.{MOST_BYTES, MOST_LINES, lineWidth, seriesOf, readTerms, readHead, readPositions}
+use Rattle.text_rules.specs.Text.{MOST_BYTES, MOST_LINES, lineWidth, listingOf, readTerms, readHead, readPositions}
 use Rattle.series_text.specs.Parts.{numberBy, foundMeans, foundWithin, rowMeans, foundFields, withCode, readPosition}
 use Rattle.text_rules.proofs.RowLaws.{rows-none}
 use Rattle.text_rules.proofs.ColumnLaws.{column-rows}
@@ -36,24 +37,25 @@ pub names-read : (h : Heading) (s : Text) (r : Result Text) → r ≡ afterLine 
 unfolding readNames
 names-read h s r e = ap (λ (x : Result Text). headingOr h x (refused 12)) e
 
-module _ (h : Heading) (known : List Heading) (s : Text) where
-  -- the first heading is there
-  pub names-first : {x : Read Heading} → value x ≡ readNames (h ∷ []) s → value x ≡ readNames (h ∷ known) s
-  unfolding readNames headingOr
-  names-first {x} e = go (afterLine (namesLine h) s) e
-    where
-      go : (r : Result Text) → value x ≡ headingOr h r (refused 12) → value x ≡ headingOr h r (readNames known s)
-      go (refused n) e = absurd (never 12 x (sym e))
-      go (value rest) e = e
+-- one of the first headings is there
+pub names-first : (early known : List Heading) (s : Text) {x : Read Heading} → value x ≡ readNames early s → value x ≡ readNames (early ++ known) s
+unfolding readNames headingOr
+names-first [] known s {x} e = absurd (never 12 x (sym e))
+names-first (h ∷ early) known s {x} e = go (afterLine (namesLine h) s) (names-first early known s {x = x}) e
+  where
+    go : (r : Result Text) → (value x ≡ readNames early s → value x ≡ readNames (early ++ known) s) → value x ≡ headingOr h r (readNames early s) → value x ≡ headingOr h r (readNames (early ++ known) s)
+    go (refused n) more e = more e
+    go (value rest) more e = e
 
-  -- it is not, and the others are looked for
-  pub names-other : refused 12 ≡ readNames (h ∷ []) s → readNames known s ≡ readNames (h ∷ known) s
-  unfolding readNames headingOr
-  names-other e = go (afterLine (namesLine h) s) e
-    where
-      go : (r : Result Text) → refused 12 ≡ headingOr h r (refused 12) → readNames known s ≡ headingOr h r (readNames known s)
-      go (refused n) e = refl
-      go (value rest) e = absurd (never 12 _ e)
+-- none of them is, and the others are looked for
+pub names-other : (early known : List Heading) (s : Text) → refused 12 ≡ readNames early s → readNames known s ≡ readNames (early ++ known) s
+unfolding readNames headingOr
+names-other [] known s e = refl
+names-other (h ∷ early) known s e = go (afterLine (namesLine h) s) (names-other early known s) e
+  where
+    go : (r : Result Text) → (refused 12 ≡ readNames early s → readNames known s ≡ readNames (early ++ known) s) → refused 12 ≡ headingOr h r (readNames early s) → readNames known s ≡ headingOr h r (readNames (early ++ known) s)
+    go (refused n) more e = more e
+    go (value rest) more e = absurd (never 12 _ e)
 
 -- ---- the byte that ends a field
 
@@ -352,7 +354,7 @@ module _ (s : Text) (fits : length s ≤ MOST_BYTES) where
       unfolding readHead
       head-columns h = rw (le-ltb MOST_BYTES (length s) fits, ← hn, ← ht, ← h)
 
-      pub head-all : {columns : Read Heading} → value columns ≡ readNames line3 (t .rest) → value (record { found = record { terms = t .found; coded = coded (columns .found) }; rest = columns .rest }) ≡ readHead s
+      pub head-all : {columns : Read Heading} → value columns ≡ readNames line3 (t .rest) → value (record { found = record { terms = t .found; form = formOf (columns .found); coded = coded (columns .found) }; rest = columns .rest }) ≡ readHead s
       unfolding readHead
       head-all h = rw (le-ltb MOST_BYTES (length s) fits, ← hn, ← ht, ← h)
 
@@ -440,30 +442,30 @@ module _ {most : ℕ} {c : Bool} {s : Text} {from : ℕ} {rows : List (List ℕ)
     pub rows-more : {row : List ℕ} {next : ℕ} → value (record { found = row; rest = drop next s }) ≡ readPosition c (drop at s) → RowsTo most c s from (rows ++ (row ∷ [])) next (n + 1)
     rows-more {row} {next} h = record { reads = next-row lt le ∙ rw (← h) (above-above rows (row ∷ []) (positionLines (most - (n + 1)) c (drop next s))) }
 
--- ---- the series of the position lines
+-- ---- the listing of the position lines
 
 -- without a code the code is the account
-series-coded : (c : Bool) (t : Terms) (ps : List (List ℕ)) → seriesOf true t (map (withCode c) ps) ≡ seriesOf c t ps
+listing-coded : (c : Bool) (f : Form) (t : Terms) (ps : List (List ℕ)) → listingOf true f t (map (withCode c) ps) ≡ listingOf c f t ps
 unfolding column
-series-coded true t ps = rw map-id
-series-coded false t ps = simp map-map
+listing-coded true f t ps = rw map-id
+listing-coded false f t ps = simp map-map
 
-module _ (c : Bool) (t : Terms) (s : Text) where
-  positions-by : (positionLines MOST_LINES c s >>= λ ps. value (seriesOf true t ps)) ≡ readPositions (record { terms = t; coded = c }) s
+module _ (c : Bool) (f : Form) (t : Terms) (s : Text) where
+  positions-by : (positionLines MOST_LINES c s >>= λ ps. value (listingOf true f t ps)) ≡ readPositions (record { terms = t; form = f; coded = c }) s
   unfolding positionLines readPositions
   positions-by = go (readRows MOST_LINES (lineWidth c) s)
     where
-      go : (r : Result (List (List ℕ))) → ((r >>= λ ps. value (map (withCode c) ps)) >>= λ ps. value (seriesOf true t ps)) ≡ (r >>= λ ps. value (seriesOf c t ps))
+      go : (r : Result (List (List ℕ))) → ((r >>= λ ps. value (map (withCode c) ps)) >>= λ ps. value (listingOf true f t ps)) ≡ (r >>= λ ps. value (listingOf c f t ps))
       go (refused n) = refl
-      go (value ps) = ap value (series-coded c t ps)
+      go (value ps) = ap value (listing-coded c f t ps)
 
   -- they are refused
-  pub positions-refused : {n : ℕ} → refused n ≡ positionLines MOST_LINES c s → refused n ≡ readPositions (record { terms = t; coded = c }) s
+  pub positions-refused : {n : ℕ} → refused n ≡ positionLines MOST_LINES c s → refused n ≡ readPositions (record { terms = t; form = f; coded = c }) s
   positions-refused h = rw (← h) at positions-by
 
   -- they are the rows of three columns of one length
-  pub positions-all : {codes accounts shorts : List ℕ} → length accounts ≡ length codes → length shorts ≡ length codes → value (rowsOf (codes ∷ accounts ∷ shorts ∷ [])) ≡ positionLines MOST_LINES c s
-      → value (record { terms = t; codes = codes; accounts = accounts; shorts = shorts }) ≡ readPositions (record { terms = t; coded = c }) s
-  positions-all {codes} {accounts} {shorts} la ls h =
-      let rows = column-rows codes (accounts ∷ shorts ∷ []) in
+  pub positions-all : {codes accounts numbers : List ℕ} → length accounts ≡ length codes → length numbers ≡ length codes → value (rowsOf (codes ∷ accounts ∷ numbers ∷ [])) ≡ positionLines MOST_LINES c s
+      → value (record { form = f; terms = t; codes = codes; accounts = accounts; numbers = numbers }) ≡ readPositions (record { terms = t; form = f; coded = c }) s
+  positions-all {codes} {accounts} {numbers} la ls h =
+      let rows = column-rows codes (accounts ∷ numbers ∷ []) in
       rw (rows 0 refl, rows 1 la, rows 2 ls) at (rw (← h) at positions-by)

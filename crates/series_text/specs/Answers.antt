@@ -6,5 +6,5 @@ use Rattle.series_text.specs.declared.Reading.{Reading}
 
 -- what each answer of reading hands back
 abbrev pub readingOf : Reading → Result Handed
-readingOf (Reading.Series t n) = value (record { terms = t; positions = n })
+readingOf (Reading.Series f t n) = value (record { form = f; terms = t; positions = n })
 readingOf (Reading.Refused r) = refused (numberOf r)

@@ -7,7 +7,8 @@ use lib.ListN.{length, getD, take, drop}
 use lib.Seq.{slice}
 use Rattle.series.specs.Results.{Result, refused, value, _>>=_}
 use Rattle.series.specs.Answers.{numberOf}
-use Rattle.series.specs.Series.{Series}
+use Rattle.forms.specs.Forms.{Listing}
+use Rattle.forms.specs.declared.Form.{Form}
 use Rattle.series.specs.declared.Method.{Method}
 use Rattle.series.specs.declared.Terms.{Terms}
 use Rattle.text_rules.specs.Numbers.{number}
@@ -86,7 +87,7 @@ termsMeans s (TermsLine.Refused r) = refused (numberOf r)
 
 -- what lines 1 to 3 hold, with the text s from an index on
 abbrev pub headMeans : Text → HeadLines → Result (Read Head)
-headMeans s (HeadLines.Head t c next) = value (record { found = record { terms = t; coded = c }; rest = drop next s })
+headMeans s (HeadLines.Head t f c next) = value (record { found = record { terms = t; form = f; coded = c }; rest = drop next s })
 headMeans s (HeadLines.Refused r) = refused (numberOf r)
 
 -- the numbers of a position line, its code first: without one of its own the code is the account
@@ -94,16 +95,16 @@ abbrev pub withCode : Bool → List ℕ → List ℕ
 withCode true row = row
 withCode false row = getD row 0 0 ∷ row
 
--- a position line as a code, an account and shorts, else 13
+-- a position line as a code, an account and its shorts or last number, else 13
 unfoldable pub readPosition : Bool → Text → Result (Read (List ℕ))
 readPosition c s = do
   r ← readRow (lineWidth c) s
   value (record { found = withCode c (r .found); rest = r .rest })
 
--- the series whose positions stand first in three lists
-abbrev pub positionsMean : Terms → List ℕ → List ℕ → List ℕ → Positions → Result Series
-positionsMean t codes accounts shorts (Positions.Read n) = value (record { terms = t; codes = take n codes; accounts = take n accounts; shorts = take n shorts })
-positionsMean t codes accounts shorts (Positions.Refused r) = refused (numberOf r)
+-- the listing whose positions stand first in three lists
+abbrev pub positionsMean : Form → Terms → List ℕ → List ℕ → List ℕ → Positions → Result Listing
+positionsMean f t codes accounts numbers (Positions.Read n) = value (record { form = f; terms = t; codes = take n codes; accounts = take n accounts; numbers = take n numbers })
+positionsMean f t codes accounts numbers (Positions.Refused r) = refused (numberOf r)
 
 -- they are at most 1,024
 abbrev pub positionsWithin : Positions → Type 0

@@ -7,6 +7,7 @@ pub mod names;
 mod number;
 mod row;
 
+use forms::Form;
 use lines::HeadLines;
 use lines::Positions;
 use series::Refusal;
@@ -20,9 +21,13 @@ ghost use Rattle.series.specs.Outputs.{onto};
 ghost use Rattle.text_rules.specs.Calls.{readInto, handed};
 ghost use Rattle.series_text.specs.Answers.{readingOf};
 
-// What reading a text answers: the values of line 2 with the number of positions, or a refusal.
+// What reading a text answers: its form, the values of line 2 and the number of positions, or a refusal.
 pub enum Reading {
-    Series { terms: Terms, positions: usize },
+    Series {
+        form: Form,
+        terms: Terms,
+        positions: usize,
+    },
     Refused(Refusal),
 }
 
@@ -39,27 +44,27 @@ fn copy_first(source: &[u32], n: usize, target: &mut [u32])
 }
 
 // Reads the text of a series into three lists. After a refusal all are as they were, and what stands past the positions is kept.
-pub fn read(text: &[u8], codes: &mut [u32], accounts: &mut [u32], shorts: &mut [u32]) -> Reading
-    ensures { λ r. ⌜ readingOf r ≡ handed (readInto (now (text .entry)) (length (now (codes .entry))) (length (now (accounts .entry))) (length (now (shorts .entry)))) ⌝ }
-    ensures { λ _. ⌜ now (codes .exit) ≡ after (readInto (now (text .entry)) (length (now (codes .entry))) (length (now (accounts .entry))) (length (now (shorts .entry)))) (λ s. onto (s .codes) (now (codes .entry))) (now (codes .entry)) ⌝ }
-    ensures { λ _. ⌜ now (accounts .exit) ≡ after (readInto (now (text .entry)) (length (now (codes .entry))) (length (now (accounts .entry))) (length (now (shorts .entry)))) (λ s. onto (s .accounts) (now (accounts .entry))) (now (accounts .entry)) ⌝ }
-    ensures { λ _. ⌜ now (shorts .exit) ≡ after (readInto (now (text .entry)) (length (now (codes .entry))) (length (now (accounts .entry))) (length (now (shorts .entry)))) (λ s. onto (s .shorts) (now (shorts .entry))) (now (shorts .entry)) ⌝ }
+pub fn read(text: &[u8], codes: &mut [u32], accounts: &mut [u32], numbers: &mut [u32]) -> Reading
+    ensures { λ r. ⌜ readingOf r ≡ handed (readInto (now (text .entry)) (length (now (codes .entry))) (length (now (accounts .entry))) (length (now (numbers .entry)))) ⌝ }
+    ensures { λ _. ⌜ now (codes .exit) ≡ after (readInto (now (text .entry)) (length (now (codes .entry))) (length (now (accounts .entry))) (length (now (numbers .entry)))) (λ s. onto (s .codes) (now (codes .entry))) (now (codes .entry)) ⌝ }
+    ensures { λ _. ⌜ now (accounts .exit) ≡ after (readInto (now (text .entry)) (length (now (codes .entry))) (length (now (accounts .entry))) (length (now (numbers .entry)))) (λ s. onto (s .accounts) (now (accounts .entry))) (now (accounts .entry)) ⌝ }
+    ensures { λ _. ⌜ now (numbers .exit) ≡ after (readInto (now (text .entry)) (length (now (codes .entry))) (length (now (accounts .entry))) (length (now (numbers .entry)))) (λ s. onto (s .numbers) (now (numbers .entry))) (now (numbers .entry)) ⌝ }
 {
     let head = lines::read_head(text);
     match head {
         HeadLines::Refused(refusal) => Reading::Refused(refusal),
-        HeadLines::Head(terms, coded, next) => {
+        HeadLines::Head(terms, form, coded, next) => {
             // The positions stand here until nothing can refuse any more.
             let mut read_codes = [0u32; 1024];
             let mut read_accounts = [0u32; 1024];
-            let mut read_shorts = [0u32; 1024];
+            let mut read_numbers = [0u32; 1024];
             match lines::read_positions(
                 text,
                 next,
                 coded,
                 &mut read_codes,
                 &mut read_accounts,
-                &mut read_shorts,
+                &mut read_numbers,
             ) {
                 Positions::Refused(refusal) => Reading::Refused(refusal),
                 Positions::Read(n) => {
@@ -69,13 +74,14 @@ pub fn read(text: &[u8], codes: &mut [u32], accounts: &mut [u32], shorts: &mut [
                     if accounts.len() < n {
                         return Reading::Refused(Refusal::OutputTooShort);
                     }
-                    if shorts.len() < n {
+                    if numbers.len() < n {
                         return Reading::Refused(Refusal::OutputTooShort);
                     }
                     copy_first(&read_codes, n, codes);
                     copy_first(&read_accounts, n, accounts);
-                    copy_first(&read_shorts, n, shorts);
+                    copy_first(&read_numbers, n, numbers);
                     Reading::Series {
+                        form,
                         terms,
                         positions: n,
                     }

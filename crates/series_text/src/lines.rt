@@ -4,12 +4,14 @@ use crate::field::find_end;
 use crate::letters::Named;
 use crate::letters::method_by;
 use crate::names::Names;
+use crate::names::form_of;
 use crate::names::is_coded;
 use crate::names::read_columns;
 use crate::names::read_names;
 use crate::row::RowEnd;
 use crate::row::has_fields;
 use crate::row::read_row;
+use forms::Form;
 use series::Contracts;
 use series::Refusal;
 use series::Terms;
@@ -21,6 +23,7 @@ ghost use lib.Seq.{slice};
 ghost use Rattle.series.specs.Results.{refused};
 ghost use Rattle.series.specs.Answers.{numberOf};
 ghost use Rattle.series.specs.declared.Terms.{Terms as Terms·};
+ghost use Rattle.forms.specs.declared.Form.{Form as Form·};
 ghost use Rattle.text_rules.specs.Letters.{methodOf};
 ghost use Rattle.text_rules.specs.Text.{readTerms, readHead, readPositions, MOST_LINES};
 ghost use Rattle.series_text.specs.Parts.{namedMeans, rowMeans, TermsMalformed, termsMeans, headMeans, readPosition, positionsMean, positionsWithin};
@@ -31,9 +34,9 @@ pub enum TermsLine {
     Refused(Refusal),
 }
 
-// Lines 1 to 3: the values of line 2, whether each position line begins with a code, and the index after them.
+// Lines 1 to 3: the values of line 2, the form of the position lines, whether each begins with a code, and the index after them.
 pub enum HeadLines {
-    Head(Terms, bool, usize),
+    Head(Terms, Form, bool, usize),
     Refused(Refusal),
 }
 
@@ -109,12 +112,12 @@ pub fn read_head(text: &[u8]) -> HeadLines
             let Names::Line(heading, lines) = read_columns(text, line3) else {
                 return HeadLines::Refused(Refusal::NamesLine);
             };
-            HeadLines::Head(terms, is_coded(heading), lines)
+            HeadLines::Head(terms, form_of(heading), is_coded(heading), lines)
         }
     }
 }
 
-// Reads the code, the account and the shorts of a position line at an index. Without a code of its own the code is the account.
+// Reads the code, the account and the shorts or last number of a position line at an index. Without a code of its own the code is the account.
 fn read_position(text: &[u8], at: usize, coded: bool, row: &mut [u32]) -> RowEnd
     requires { ⌜ length (now row) ≡ 3 ⌝ }
     ensures { λ r. ⌜ rowMeans (now (text .entry)) (now (row .exit)) r ≡ readPosition coded (drop at (now (text .entry))) ⌝ }
@@ -134,10 +137,10 @@ pub fn read_positions(
     coded: bool,
     codes: &mut [u32],
     accounts: &mut [u32],
-    shorts: &mut [u32],
+    numbers: &mut [u32],
 ) -> Positions
-    requires { ⌜ (MOST_LINES ≤ length (now codes)) × (MOST_LINES ≤ length (now accounts)) × (MOST_LINES ≤ length (now shorts)) ⌝ }
-    ensures { λ r. ⌜ ((t : Terms·) → positionsMean t (now (codes .exit)) (now (accounts .exit)) (now (shorts .exit)) r ≡ readPositions (record { terms = t; coded = coded }) (drop from (now (text .entry)))) ⌝ }
+    requires { ⌜ (MOST_LINES ≤ length (now codes)) × (MOST_LINES ≤ length (now accounts)) × (MOST_LINES ≤ length (now numbers)) ⌝ }
+    ensures { λ r. ⌜ ((f : Form·) (t : Terms·) → positionsMean f t (now (codes .exit)) (now (accounts .exit)) (now (numbers .exit)) r ≡ readPositions (record { terms = t; form = f; coded = coded }) (drop from (now (text .entry)))) ⌝ }
     ensures { λ r. ⌜ positionsWithin r ⌝ }
 {
     let mut row = [0u32; 3];
@@ -152,7 +155,7 @@ pub fn read_positions(
         };
         codes[n] = row[0];
         accounts[n] = row[1];
-        shorts[n] = row[2];
+        numbers[n] = row[2];
         n += 1;
         at = next;
     }

@@ -7,7 +7,8 @@ use mathlib.Core.List.{List, [], _∷_, _++_, map}
 use lib.ListN.{replicate}
 use Rattle.series.specs.Ascii.{ascii}
 use Rattle.series.specs.Results.{Result, refused, value, _>>=_, status}
-use Rattle.series.specs.Series.{Series}
+use Rattle.forms.specs.Forms.{Listing}
+use Rattle.forms.specs.declared.Form.{Form}
 use Rattle.series.specs.Sums.{listed}
 use Rattle.series.specs.declared.Method.{Method}
 use Rattle.text_rules.specs.Numbers.{digit, digits, spelled, amountFrom, amount, numeral, number, decimalIn, decimal}
@@ -20,18 +21,19 @@ use Rattle.text_rules.specs.Calls.{readInto, evenly, lineCount, headAndL
 use Rattle.text_rules.specs.declared.Heading.{Heading}
 
 -- the line `unfolding` names every definition that reading computes with
-reading : Text → Result Series
+reading : Text → Result Listing
 unfolding digit digits spelled amountFrom amount numeral number ends field past fieldBy endBefore readFields numbers readRow readRows column namesLine afterLine headingOr readNames letter methodAmong methodBy methodOf readTerms readHead readPositions readText ascii
 reading s = readText s
 
 -- case M: each code is its account
-pub M : Series
+pub M : Listing
 M =
     record {
+      form = Form.Shorts;
       terms = record { method = Method.Lottery; exercised = record { 0 = 13 }; draw = 4855 };
       codes = 1 ∷ 2 ∷ 3 ∷ 4 ∷ 5 ∷ [];
       accounts = 1 ∷ 2 ∷ 3 ∷ 4 ∷ 5 ∷ [];
-      shorts = 5 ∷ 8 ∷ 2 ∷ 10 ∷ 11 ∷ [];
+      numbers = 5 ∷ 8 ∷ 2 ∷ 10 ∷ 11 ∷ [];
     }
 
 pub M-text : Text
@@ -50,13 +52,14 @@ unfolding reading M M-long
 M-long-read = refl
 
 -- M under W, with codes of its own, and an account lower than the one before it
-pub M-coded : Series
+pub M-coded : Listing
 M-coded =
     record {
+      form = Form.Shorts;
       terms = record { method = Method.Wheel; exercised = record { 0 = 13 }; draw = 4855 };
       codes = 10 ∷ 20 ∷ 30 ∷ 40 ∷ 50 ∷ [];
       accounts = 1 ∷ 3 ∷ 2 ∷ 4 ∷ 5 ∷ [];
-      shorts = 5 ∷ 8 ∷ 2 ∷ 10 ∷ 11 ∷ [];
+      numbers = 5 ∷ 8 ∷ 2 ∷ 10 ∷ 11 ∷ [];
     }
 
 pub coded-text : Text
@@ -67,7 +70,7 @@ unfolding reading M-coded coded-text
 coded-read = refl
 
 -- the definitions that writing computes with
-writing : Series → ℕ → Result Text
+writing : Listing → ℕ → Result Text
 unfolding ascii decimalIn decimal writeNumber endBefore writeRow writeRows listed rowsOf namesLine letter writeTerms writeHead textWith sameNumbers writesCodes writeText evenly lineCount headAndLines writeInto
 writing t room = writeInto t room
 
@@ -88,7 +91,7 @@ repeated (suc n) t = t ++ repeated n t
 
 -- lines 1 to 3, as they should be, with the code column or without it
 pub head : Bool → Text
-head c = ascii "method,exercised,draw\nW,1,1\n" ++ namesLine (headingOf c)
+head c = ascii "method,exercised,draw\nW,1,1\n" ++ namesLine (headingOf Form.Shorts c)
 
 -- a text and the number of its refusal, 0 where it is read
 pub record TextCase : Type 0 where
@@ -230,12 +233,12 @@ spellings =
 -- a field of a text: the text with these digits in the field, and the series with this number there
 pub record FieldCase : Type 0 where
   pub text : Text → Text
-  pub series : ℕ → Series
+  pub series : ℕ → Listing
 
 -- a series of one position under W
-abbrev one : ℕ → ℕ → ℕ → ℕ → ℕ → Series
+abbrev one : ℕ → ℕ → ℕ → ℕ → ℕ → Listing
 one exercised draw code account short =
-    record { terms = record { method = Method.Wheel; exercised = record { 0 = exercised }; draw = draw }; codes = code ∷ []; accounts = account ∷ []; shorts = short ∷ [] }
+    record { form = Form.Shorts; terms = record { method = Method.Wheel; exercised = record { 0 = exercised }; draw = draw }; codes = code ∷ []; accounts = account ∷ []; numbers = short ∷ [] }
 
 -- the account, which is the code too, the shorts, the code, S and the draw
 pub fields : List FieldCase
@@ -278,6 +281,10 @@ names =
     found line3 "account,short\n1" Heading.Positions "1" ∷
     found line3 "code,account,short\n" Heading.CodedPositions "" ∷
     found line3 "code,account,short\n1" Heading.CodedPositions "1" ∷
+    found line3 "account,last\n" Heading.LastNumbers "" ∷
+    found line3 "account,last\n1" Heading.LastNumbers "1" ∷
+    found line3 "code,account,last\n" Heading.CodedLastNumbers "" ∷
+    found line3 "code,account,last\n1" Heading.CodedLastNumbers "1" ∷
     -- no byte 10, a byte too many before it, a byte too few
     unknown line1 "method,exercised,draw" ∷
     unknown line1 "method,exercised,draws\n" ∷
@@ -288,9 +295,17 @@ names =
     unknown line3 "code,account,short" ∷
     unknown line3 "code,account,shorts\n" ∷
     unknown line3 "code,account,shor\n" ∷
+    unknown line3 "account,last" ∷
+    unknown line3 "account,lasts\n" ∷
+    unknown line3 "account,las\n" ∷
+    unknown line3 "code,account,last" ∷
+    unknown line3 "code,account,lasts\n" ∷
+    unknown line3 "code,account,las\n" ∷
     -- the words of line 3 in the place of line 1, and of line 1 in the place of line 3
     unknown line1 "account,short\n" ∷
     unknown line1 "code,account,short\n" ∷
+    unknown line1 "account,last\n" ∷
+    unknown line1 "code,account,last\n" ∷
     unknown line3 "method,exercised,draw\n" ∷
     -- no text
     unknown line1 "" ∷
@@ -302,17 +317,17 @@ names-judged = refl
 
 -- ---- writing
 
--- M's terms with so many codes, accounts and shorts
-abbrev counted : ℕ → ℕ → ℕ → Series
-counted codes accounts shorts = record { terms = M .terms; codes = replicate codes 1; accounts = replicate accounts 1; shorts = replicate shorts 1 }
+-- M's terms with so many codes, accounts and numbers
+abbrev counted : ℕ → ℕ → ℕ → Listing
+counted codes accounts numbers = record { form = Form.Shorts; terms = M .terms; codes = replicate codes 1; accounts = replicate accounts 1; numbers = replicate numbers 1 }
 
 -- a series, the length of the output, and the length of the text that is written, or the refusal
 pub record WritingCase : Type 0 where
-  pub series : Series
+  pub series : Listing
   pub room : ℕ
   pub answer : Result ℕ
 
-abbrev writes : Series → ℕ → Result ℕ → WritingCase
+abbrev writes : Listing → ℕ → Result ℕ → WritingCase
 writes t room answer = record { series = t; room = room; answer = answer }
 
 pub writings : List WritingCase

@@ -15,6 +15,7 @@ use Rattle.series.specs.Results.{value, refuse}
 use Rattle.series.specs.declared.Terms.{Terms}
 use Rattle.series.proofs.ResultLaws.{stepped, not-refused}
 use Rattle.series.proofs.SumLaws.{sum-mono, sum-const, sum-first}
+use Rattle.forms.specs.declared.Form.{Form}
 use Rattle.text_rules.specs.Numbers.{decimal}
 use Rattle.text_rules.specs.Fields.{Text, endBefore, writeNumber}
 use Rattle.text_rules.specs.Rows.{writeRow, writeRows, rowOf, rowsOf}
@@ -108,19 +109,21 @@ rows-room (c ∷ cs) = lines-room (rowOf (c ∷ cs)) (length (c ∷ cs)) (length
 -- ---- lines 1 to 3
 
 -- their length is that of their parts
-pub length-head : (c : Bool) (t : Terms) → length (writeHead c t) ≡ length (namesLine Heading.Terms) + (2 + length (writeRow (t .exercised .0 ∷ t .draw ∷ []))) + length (namesLine (headingOf c))
+pub length-head : (c : Bool) (f : Form) (t : Terms) → length (writeHead c f t) ≡ length (namesLine Heading.Terms) + (2 + length (writeRow (t .exercised .0 ∷ t .draw ∷ []))) + length (namesLine (headingOf f c))
 unfolding writeHead writeTerms
-length-head c t =
-    omega (arith, length-append (namesLine Heading.Terms) (writeTerms t ++ namesLine (headingOf c)), length-append (writeTerms t) (namesLine (headingOf c)))
+length-head c f t =
+    omega (arith, length-append (namesLine Heading.Terms) (writeTerms t ++ namesLine (headingOf f c)), length-append (writeTerms t) (namesLine (headingOf f c)))
 
-columns-room : (c : Bool) → length (namesLine (headingOf c)) ≤ 19
+pub columns-room : (f : Form) (c : Bool) → length (namesLine (headingOf f c)) ≤ 19
 unfolding namesLine ascii
-columns-room true = omega arith
-columns-room false = omega arith
+columns-room Form.Shorts false = omega arith
+columns-room Form.Shorts true = omega arith
+columns-room Form.LastNumbers false = omega arith
+columns-room Form.LastNumbers true = omega arith
 
-pub head-room : (c : Bool) (t : Terms) → length (writeHead c t) ≤ 65
+pub head-room : (c : Bool) (f : Form) (t : Terms) → length (writeHead c f t) ≤ 65
 unfolding namesLine ascii
-head-room c t = omega (arith, length-head c t, columns-room c, row-few (t .exercised .0 ∷ t .draw ∷ []))
+head-room c f t = omega (arith, length-head c f t, columns-room f c, row-few (t .exercised .0 ∷ t .draw ∷ []))
 
 -- ---- a head and lines
 
@@ -148,7 +151,7 @@ columns-even false codes accounts shorts same beside = rw (count-by false codes 
 pub even-columns : (c : Bool) (codes accounts shorts : List ℕ) (n : ℕ) → Plain c codes accounts → Each (λ l. length l ≡ n) (columnsBy c codes accounts shorts) → lineCount (columnsBy c codes accounts shorts) ≤ MOST_LINES → Columns codes accounts shorts
 even-columns c codes accounts shorts n plain each few =
     let both = even-lengths c codes accounts shorts n plain each in
-    record { codes = both .0; shorts = both .1; few = omega (arith, count-by c codes accounts shorts (both .0)) }
+    record { codes = both .0; numbers = both .1; few = omega (arith, count-by c codes accounts shorts (both .0)) }
 
 -- the columns are as long as the first, they are not too long, and the text is the head with their lines
 pub record LinesKnown (head : Text) (cs : List (List ℕ)) (s : Text) : Type 0 where
@@ -171,4 +174,4 @@ lines-known head cs s e =
 -- the head and the lines of columns of one length, of at most 1,024 numbers
 pub lines-written : (head : Text) (c : Bool) (codes accounts shorts : List ℕ) → Columns codes accounts shorts → headAndLines head (columnsBy c codes accounts shorts) ≡ value (head ++ writeRows (rowsOf (columnsBy c codes accounts shorts)))
 unfolding headAndLines
-lines-written head c codes accounts shorts l = rw (columns-even c codes accounts shorts (l .codes) (l .shorts), count-by c codes accounts shorts (l .codes), le-ltb MOST_LINES (length accounts) (l .few))
+lines-written head c codes accounts shorts l = rw (columns-even c codes accounts shorts (l .codes) (l .numbers), count-by c codes accounts shorts (l .codes), le-ltb MOST_LINES (length accounts) (l .few))

@@ -17,14 +17,14 @@ use Rattle.text_rules.specs.Calls.{Handed, readInto, handed}
 abbrev pub ReadLeaves : Text → List ℕ → List ℕ → List ℕ → Result Handed → List ℕ → List ℕ → List ℕ → Type 0
 ReadLeaves s cs xs ys r cs′ xs′ ys′ =
     let read = readInto s (length cs) (length xs) (length ys) in
-    (r ≡ handed read) × ((cs′ ≡ after read (λ t. onto (t .codes) cs) cs) × ((xs′ ≡ after read (λ t. onto (t .accounts) xs) xs) × (ys′ ≡ after read (λ t. onto (t .shorts) ys) ys)))
+    (r ≡ handed read) × ((cs′ ≡ after read (λ t. onto (t .codes) cs) cs) × ((xs′ ≡ after read (λ t. onto (t .accounts) xs) xs) × (ys′ ≡ after read (λ t. onto (t .numbers) ys) ys)))
 
 -- the position lines of u are read: n positions, which stand first in three lists
-pub record PositionsRead (h : Head) (u : Text) (codes accounts shorts : List ℕ) (n : ℕ) : Type 0 where
-  pub reads : value (record { terms = h .terms; codes = take n codes; accounts = take n accounts; shorts = take n shorts }) ≡ readPositions h u
+pub record PositionsRead (h : Head) (u : Text) (codes accounts numbers : List ℕ) (n : ℕ) : Type 0 where
+  pub reads : value (record { form = h .form; terms = h .terms; codes = take n codes; accounts = take n accounts; numbers = take n numbers }) ≡ readPositions h u
   pub in-codes : n ≤ length codes
   pub in-accounts : n ≤ length accounts
-  pub in-shorts : n ≤ length shorts
+  pub in-numbers : n ≤ length numbers
 
 module _ (s : Text) (cs xs ys : List ℕ) where
   leaves-refused : (n : ℕ) → readInto s (length cs) (length xs) (length ys) ≡ refused n → ReadLeaves s cs xs ys (refused n) cs xs ys
@@ -42,10 +42,10 @@ module _ (s : Text) (cs xs ys : List ℕ) where
     unfolding readInto readText
     positions-fault {n} e = leaves-refused n (rw (← hh, ← e))
 
-    module _ {codes accounts shorts : List ℕ} {n : ℕ} (p : PositionsRead (h .found) (h .rest) codes accounts shorts n) where
+    module _ {codes accounts numbers : List ℕ} {n : ℕ} (p : PositionsRead (h .found) (h .rest) codes accounts numbers n) where
       -- the text is read, and then the lists are judged
       text-read : readInto s (length cs) (length xs) (length ys)
-          ≡ refuse (ltb (length cs) n || (ltb (length xs) n || ltb (length ys) n)) 4 (record { terms = h .found .terms; codes = take n codes; accounts = take n accounts; shorts = take n shorts })
+          ≡ refuse (ltb (length cs) n || (ltb (length xs) n || ltb (length ys) n)) 4 (record { form = h .found .form; terms = h .found .terms; codes = take n codes; accounts = take n accounts; numbers = take n numbers })
       unfolding readInto readText
       text-read = rw (← hh, ← p .reads, length-take-le n accounts (p .in-accounts))
 
@@ -61,16 +61,16 @@ module _ (s : Text) (cs xs ys : List ℕ) where
       accounts-short lt = read-short (rw (lt-ltb (length xs) n lt) (or-true (ltb (length cs) n)))
 
       -- the third list is too short
-      pub shorts-short : length ys < n → ReadLeaves s cs xs ys (refused 4) cs xs ys
-      shorts-short lt = read-short (rw (lt-ltb (length ys) n lt, or-true (ltb (length xs) n)) (or-true (ltb (length cs) n)))
+      pub numbers-short : length ys < n → ReadLeaves s cs xs ys (refused 4) cs xs ys
+      numbers-short lt = read-short (rw (lt-ltb (length ys) n lt, or-true (ltb (length xs) n)) (or-true (ltb (length cs) n)))
 
       -- the lists are filled
-      pub read-all : n ≤ length cs → n ≤ length xs → n ≤ length ys → {cs′ xs′ ys′ : List ℕ} → cs′ ≡ take n codes ++ drop n cs → xs′ ≡ take n accounts ++ drop n xs → ys′ ≡ take n shorts ++ drop n ys
-          → ReadLeaves s cs xs ys (value (record { terms = h .found .terms; positions = n })) cs′ xs′ ys′
+      pub read-all : n ≤ length cs → n ≤ length xs → n ≤ length ys → {cs′ xs′ ys′ : List ℕ} → cs′ ≡ take n codes ++ drop n cs → xs′ ≡ take n accounts ++ drop n xs → ys′ ≡ take n numbers ++ drop n ys
+          → ReadLeaves s cs xs ys (value (record { form = h .found .form; terms = h .found .terms; positions = n })) cs′ xs′ ys′
       unfolding handed onto
       read-all lc lx ly ec ex ey =
-          let z : readInto s (length cs) (length xs) (length ys) ≡ value (record { terms = h .found .terms; codes = take n codes; accounts = take n accounts; shorts = take n shorts })
+          let z : readInto s (length cs) (length xs) (length ys) ≡ value (record { form = h .found .form; terms = h .found .terms; codes = take n codes; accounts = take n accounts; numbers = take n numbers })
           = text-read ∙ rw (le-ltb (length cs) n lc, le-ltb (length xs) n lx, le-ltb (length ys) n ly) in (
             rw (z, length-take-le n accounts (p .in-accounts)),
-            (ec ∙ rw (z, length-take-le n codes (p .in-codes)), (ex ∙ rw (z, length-take-le n accounts (p .in-accounts)), ey ∙ rw (z, length-take-le n shorts (p .in-shorts)))),
+            (ec ∙ rw (z, length-take-le n codes (p .in-codes)), (ex ∙ rw (z, length-take-le n accounts (p .in-accounts)), ey ∙ rw (z, length-take-le n numbers (p .in-numbers)))),
           )

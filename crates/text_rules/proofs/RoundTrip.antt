@@ -1,4 +1,4 @@
--- A text reads as its series whatever the spellings of its numbers, with the code column or without it, and so does what writing wrote. The same of the two calls: `series_text/proofs/CallsRoundTrip.antt`.
+-- A text reads as its listing whatever the spellings of its numbers, with the code column or without it, and so does what writing wrote. The same of the two calls: `series_text/proofs/CallsRoundTrip.antt`.
 use Prim.Native.Nat.{ℕ, _+_, _*_, _≤_, _<_}
 use mathlib.Core.Path.{_≡_, refl, sym, ap, ap₂, _∙_}
 use mathlib.Core.Bool.{Bool, true, false, not, true≢false}
@@ -9,32 +9,33 @@ use lib.Dec.{eqb, ltb}
 use lib.ListN.{length, length-append}
 use Rattle.series.specs.Ascii.{ascii}
 use Rattle.series.specs.Results.{value, refuse, refused}
-use Rattle.series.specs.Series.{Series, exercised, draw}
+use Rattle.forms.specs.Forms.{Listing}
+use Rattle.forms.specs.declared.Form.{Form}
 use Rattle.series.specs.declared.Method.{Method}
 use Rattle.series.specs.declared.Terms.{Terms}
 use Rattle.series.proofs.ResultLaws.{value-is, stepped, not-refused}
 use Rattle.text_rules.specs.Numbers.{LARGEST, decimal}
 use Rattle.text_rules.specs.Fields.{Text, COMMA, ends, fieldBy}
 use Rattle.text_rules.specs.Rows.{rowsOf}
-use Rattle.text_rules.specs.Names.{line3, namesLine, headingOf, coded, afterLine, headingOr, readNames}
+use Rattle.text_rules.specs.Names.{line3, namesLine, headingOf, formOf, coded, afterLine, headingOr, readNames}
 use Rattle.text_rules.specs.Letters.{letter, methodAmong, methodBy, methodOf}
-use Rattle.text_rules.specs.Text.{MOST_BYTES, MOST_LINES, readTerms, readHead, lineWidth, seriesOf, readPositions, readText, writeTerms, writeHead, columns, textWith, sameNumbers, writesCodes, writeText}
+use Rattle.text_rules.specs.Text.{MOST_BYTES, MOST_LINES, readTerms, readHead, lineWidth, listingOf, readPositions, readText, writeTerms, writeHead, columns, textWith, sameNumbers, writesCodes, writeText}
 use Rattle.text_rules.specs.Lists.{Columns, Plain}
 use Rattle.text_rules.specs.Calls.{lineCount, headAndLines, writeInto, lengthOf}
 use Rattle.text_rules.specs.declared.Heading.{Heading}
 use Rattle.text_rules.proofs.FieldLaws.{prefixed, field-byte, field-end, and-true-parts}
 use Rattle.text_rules.proofs.RowLaws.{Fits, fits-none, fits-more, Figures, Each, fieldsLine, FieldsSpell, numbers-read, fields-read, row-spells, row-line, line-few, fieldsLines, LinesSpell, rows-read, rows-spell, rows-lines, lines-few, rows-fit}
-use Rattle.text_rules.proofs.LengthLaws.{even-columns, lines-known, lines-written}
+use Rattle.text_rules.proofs.LengthLaws.{columns-room, even-columns, lines-known, lines-written}
 use Rattle.text_rules.proofs.ColumnLaws.{length-rows, column-rows}
 
--- what can be written: numbers of 32 bits, and at most 1,024 positions, a code, an account and its shorts each
-pub record Writable (t : Series) : Type 0 where
-  pub exercised : exercised t ≤ LARGEST
-  pub draw : draw t ≤ LARGEST
+-- what can be written: numbers of 32 bits, and at most 1,024 positions, a code, an account and its shorts or last number each
+pub record Writable (t : Listing) : Type 0 where
+  pub exercised : t .terms .exercised .0 ≤ LARGEST
+  pub draw : t .terms .draw ≤ LARGEST
   pub codes : Fits (t .codes)
   pub accounts : Fits (t .accounts)
-  pub shorts : Fits (t .shorts)
-  pub lists : Columns (t .codes) (t .accounts) (t .shorts)
+  pub numbers : Fits (t .numbers)
+  pub lists : Columns (t .codes) (t .accounts) (t .numbers)
 
 -- ---- line by line
 
@@ -74,40 +75,50 @@ terms-back t terms s so =
     let ns : List ℕ = t .exercised .0 ∷ t .draw ∷ [] in
     rw (letter-field (t .method) (fieldsLine terms ++ s), fields-read terms ns s so, letter-method (t .method), numbers-read terms ns so)
 
--- line 3, with the code column or without it
-columns-back : (c : Bool) (s : Text) → readNames line3 (namesLine (headingOf c) ++ s) ≡ value (record { found = headingOf c; rest = s })
+-- line 3, in either form, with the code column or without it
+columns-back : (f : Form) (c : Bool) (s : Text) → readNames line3 (namesLine (headingOf f c) ++ s) ≡ value (record { found = headingOf f c; rest = s })
 unfolding readNames headingOr afterLine namesLine ascii
-columns-back true s = names-back Heading.CodedPositions [] s
-columns-back false s = names-back Heading.Positions (Heading.CodedPositions ∷ []) s
+columns-back Form.Shorts false s = names-back Heading.Positions (Heading.CodedPositions ∷ Heading.LastNumbers ∷ Heading.CodedLastNumbers ∷ []) s
+columns-back Form.Shorts true s = names-back Heading.CodedPositions (Heading.LastNumbers ∷ Heading.CodedLastNumbers ∷ []) s
+columns-back Form.LastNumbers false s = names-back Heading.LastNumbers (Heading.CodedLastNumbers ∷ []) s
+columns-back Form.LastNumbers true s = names-back Heading.CodedLastNumbers [] s
 
--- the heading says the form
-coded-heading : (c : Bool) → coded (headingOf c) ≡ c
-coded-heading true = refl
-coded-heading false = refl
+-- the heading says the form, and whether there is a code
+form-heading : (f : Form) (c : Bool) → formOf (headingOf f c) ≡ f
+form-heading Form.Shorts false = refl
+form-heading Form.Shorts true = refl
+form-heading Form.LastNumbers false = refl
+form-heading Form.LastNumbers true = refl
+
+coded-heading : (f : Form) (c : Bool) → coded (headingOf f c) ≡ c
+coded-heading Form.Shorts false = refl
+coded-heading Form.Shorts true = refl
+coded-heading Form.LastNumbers false = refl
+coded-heading Form.LastNumbers true = refl
 
 -- lines 1 to 3
-unfoldable pub spelledHead : Bool → Method → List Text → Text
-spelledHead c m terms = namesLine Heading.Terms ++ (spelledTerms m terms ++ namesLine (headingOf c))
+unfoldable pub spelledHead : Bool → Form → Method → List Text → Text
+spelledHead c f m terms = namesLine Heading.Terms ++ (spelledTerms m terms ++ namesLine (headingOf f c))
 
-head-back : (c : Bool) (t : Terms) (terms : List Text) (s : Text) → FieldsSpell terms (t .exercised .0 ∷ t .draw ∷ []) → length (spelledHead c (t .method) terms ++ s) ≤ MOST_BYTES
-    → readHead (spelledHead c (t .method) terms ++ s) ≡ value (record { found = record { terms = t; coded = c }; rest = s })
+head-back : (c : Bool) (f : Form) (t : Terms) (terms : List Text) (s : Text) → FieldsSpell terms (t .exercised .0 ∷ t .draw ∷ []) → length (spelledHead c f (t .method) terms ++ s) ≤ MOST_BYTES
+    → readHead (spelledHead c f (t .method) terms ++ s) ≡ value (record { found = record { terms = t; form = f; coded = c }; rest = s })
 unfolding readHead spelledHead
-head-back c t terms s so few =
+head-back c f t terms s so few =
     let first : Text = namesLine Heading.Terms in
     let second : Text = spelledTerms (t .method) terms in
-    let third : Text = namesLine (headingOf c) in
-    rw (le-ltb MOST_BYTES (length (spelledHead c (t .method) terms ++ s)) few, append-assoc first (second ++ third) s, append-assoc second third s, names-back Heading.Terms [] (second ++ (third ++ s)), terms-back t terms (third ++ s) so, columns-back c s, coded-heading c)
+    let third : Text = namesLine (headingOf f c) in
+    rw (le-ltb MOST_BYTES (length (spelledHead c f (t .method) terms ++ s)) few, append-assoc first (second ++ third) s, append-assoc second third s, names-back Heading.Terms [] (second ++ (third ++ s)), terms-back t terms (third ++ s) so, columns-back f c s, form-heading f c, coded-heading f c)
 
 -- the text by the method m, S and the draw spelled by these fields, and the positions by these lines
-unfoldable pub spelledText : Bool → Method → List Text → List (List Text) → Text
-spelledText c m terms lines = spelledHead c m terms ++ fieldsLines lines
+unfoldable pub spelledText : Bool → Form → Method → List Text → List (List Text) → Text
+spelledText c f m terms lines = spelledHead c f m terms ++ fieldsLines lines
 
 -- the fields spell the numbers of a series, with the code column or without it
-pub record TextSpells (c : Bool) (t : Series) (terms : List Text) (lines : List (List Text)) : Type 0 where
-  pub values : FieldsSpell terms (exercised t ∷ draw t ∷ [])
+pub record TextSpells (c : Bool) (t : Listing) (terms : List Text) (lines : List (List Text)) : Type 0 where
+  pub values : FieldsSpell terms (t .terms .exercised .0 ∷ t .terms .draw ∷ [])
   pub rows : LinesSpell (lineWidth c) lines (rowsOf (columns c t))
   pub plain : Plain c (t .codes) (t .accounts)
-  pub lists : Columns (t .codes) (t .accounts) (t .shorts)
+  pub lists : Columns (t .codes) (t .accounts) (t .numbers)
 
 -- ---- the columns of a series
 
@@ -117,70 +128,70 @@ width-some true = omega arith
 width-some false = omega arith
 
 -- a row for each position
-position-rows : (c : Bool) (t : Series) → Columns (t .codes) (t .accounts) (t .shorts) → length (rowsOf (columns c t)) ≡ length (t .accounts)
-position-rows true t l = length-rows (t .codes) (t .accounts ∷ t .shorts ∷ []) ∙ l .codes
-position-rows false t l = length-rows (t .accounts) (t .shorts ∷ [])
+position-rows : (c : Bool) (t : Listing) → Columns (t .codes) (t .accounts) (t .numbers) → length (rowsOf (columns c t)) ≡ length (t .accounts)
+position-rows true t l = length-rows (t .codes) (t .accounts ∷ t .numbers ∷ []) ∙ l .codes
+position-rows false t l = length-rows (t .accounts) (t .numbers ∷ [])
 
 -- the series of the rows of its columns
-pub series-back : (c : Bool) (t : Series) → Plain c (t .codes) (t .accounts) → Columns (t .codes) (t .accounts) (t .shorts) → seriesOf c (t .terms) (rowsOf (columns c t)) ≡ t
+pub series-back : (c : Bool) (t : Listing) → Plain c (t .codes) (t .accounts) → Columns (t .codes) (t .accounts) (t .numbers) → listingOf c (t .form) (t .terms) (rowsOf (columns c t)) ≡ t
 series-back true t plain l =
-    let at = column-rows (t .codes) (t .accounts ∷ t .shorts ∷ []) in
-    rw (at 0 refl, at 1 (sym (l .codes)), at 2 (l .shorts ∙ sym (l .codes)))
+    let at = column-rows (t .codes) (t .accounts ∷ t .numbers ∷ []) in
+    rw (at 0 refl, at 1 (sym (l .codes)), at 2 (l .numbers ∙ sym (l .codes)))
 series-back false t plain l =
-    let at = column-rows (t .accounts) (t .shorts ∷ []) in
-    rw (at 0 refl, at 1 (l .shorts), ← plain refl)
+    let at = column-rows (t .accounts) (t .numbers ∷ []) in
+    rw (at 0 refl, at 1 (l .numbers), ← plain refl)
 
 -- ---- the laws
 
 -- lines 1 and 2 have at most 46 bytes and each number of a position line at most 11, whatever the spellings
-pub spelled-few : (c : Bool) (t : Series) (terms : List Text) (lines : List (List Text)) → TextSpells c t terms lines
-    → length (spelledText c (t .terms .method) terms lines) ≤ 46 + length (namesLine (headingOf c)) + 11 * lineWidth c * length (t .accounts)
+pub spelled-few : (c : Bool) (t : Listing) (terms : List Text) (lines : List (List Text)) → TextSpells c t terms lines
+    → length (spelledText c (t .form) (t .terms .method) terms lines) ≤ 46 + length (namesLine (headingOf (t .form) c)) + 11 * lineWidth c * length (t .accounts)
 unfolding spelledText spelledHead spelledTerms namesLine ascii
 spelled-few c t terms lines so =
     let m : Method = t .terms .method in
-    let third : Text = namesLine (headingOf c) in
-    omega (arith, length-append (spelledHead c m terms) (fieldsLines lines), length-append (namesLine Heading.Terms) (spelledTerms m terms ++ third), length-append (spelledTerms m terms) third, line-few terms (exercised t ∷ draw t ∷ []) (so .values), rw (position-rows c t (so .lists)) at (lines-few (lineWidth c) lines (rowsOf (columns c t)) (so .rows)))
+    let third : Text = namesLine (headingOf (t .form) c) in
+    omega (arith, length-append (spelledHead c (t .form) m terms) (fieldsLines lines), length-append (namesLine Heading.Terms) (spelledTerms m terms ++ third), length-append (spelledTerms m terms) third, line-few terms (t .terms .exercised .0 ∷ t .terms .draw ∷ []) (so .values), rw (position-rows c t (so .lists)) at (lines-few (lineWidth c) lines (rowsOf (columns c t)) (so .rows)))
 
 -- without the code column a text has at most 22,588 bytes
-pub plain-fits : (t : Series) (terms : List Text) (lines : List (List Text)) → TextSpells false t terms lines → length (spelledText false (t .terms .method) terms lines) ≤ MOST_BYTES
+pub plain-fits : (t : Listing) (terms : List Text) (lines : List (List Text)) → TextSpells false t terms lines → length (spelledText false (t .form) (t .terms .method) terms lines) ≤ MOST_BYTES
 unfolding namesLine ascii
-plain-fits t terms lines so = omega (arith, spelled-few false t terms lines so, so .lists .few)
+plain-fits t terms lines so = omega (arith, spelled-few false t terms lines so, columns-room (t .form) false, so .lists .few)
 
 -- a text whose fields spell the numbers of a series, each in any of its spellings, reads as that series
-pub any-spelling : (c : Bool) (t : Series) (terms : List Text) (lines : List (List Text)) → TextSpells c t terms lines → length (spelledText c (t .terms .method) terms lines) ≤ MOST_BYTES
-    → readText (spelledText c (t .terms .method) terms lines) ≡ value t
+pub any-spelling : (c : Bool) (t : Listing) (terms : List Text) (lines : List (List Text)) → TextSpells c t terms lines → length (spelledText c (t .form) (t .terms .method) terms lines) ≤ MOST_BYTES
+    → readText (spelledText c (t .form) (t .terms .method) terms lines) ≡ value t
 unfolding readText readPositions spelledText
 any-spelling c t terms lines so fits =
     let rows : List (List ℕ) = rowsOf (columns c t) in
     let few : length rows ≤ MOST_LINES = omega (arith, position-rows c t (so .lists), so .lists .few) in
-    rw (head-back c (t .terms) terms (fieldsLines lines) (so .values) fits, rows-read MOST_LINES (lineWidth c) lines rows (width-some c) few (so .rows), series-back c t (so .plain) (so .lists))
+    rw (head-back c (t .form) (t .terms) terms (fieldsLines lines) (so .values) fits, rows-read MOST_LINES (lineWidth c) lines rows (width-some c) few (so .rows), series-back c t (so .plain) (so .lists))
 
 -- the digits that are written for a series
-abbrev writtenTerms : Series → List Text
-writtenTerms t = map decimal (exercised t ∷ draw t ∷ [])
+abbrev writtenTerms : Listing → List Text
+writtenTerms t = map decimal (t .terms .exercised .0 ∷ t .terms .draw ∷ [])
 
-abbrev writtenLines : Bool → Series → List (List Text)
+abbrev writtenLines : Bool → Listing → List (List Text)
 writtenLines c t = map (map decimal) (rowsOf (columns c t))
 
 -- the numbers of its rows fit 32 bits
-columns-fit : (c : Bool) (t : Series) → Writable t → Each (Figures (lineWidth c)) (rowsOf (columns c t))
-columns-fit true t w = rows-fit (columns true t) (w .codes, (w .accounts, (w .shorts, tt)))
-columns-fit false t w = rows-fit (columns false t) (w .accounts, (w .shorts, tt))
+columns-fit : (c : Bool) (t : Listing) → Writable t → Each (Figures (lineWidth c)) (rowsOf (columns c t))
+columns-fit true t w = rows-fit (columns true t) (w .codes, (w .accounts, (w .numbers, tt)))
+columns-fit false t w = rows-fit (columns false t) (w .accounts, (w .numbers, tt))
 
 -- the digits spell its numbers
-written-spells : (c : Bool) (t : Series) → Plain c (t .codes) (t .accounts) → Writable t → TextSpells c t (writtenTerms t) (writtenLines c t)
+written-spells : (c : Bool) (t : Listing) → Plain c (t .codes) (t .accounts) → Writable t → TextSpells c t (writtenTerms t) (writtenLines c t)
 written-spells c t plain w =
-    let ns : List ℕ = exercised t ∷ draw t ∷ [] in
-    let fits : Fits ns = fits-more (exercised t) (draw t ∷ []) (w .exercised) (fits-more (draw t) [] (w .draw) fits-none) in
+    let ns : List ℕ = t .terms .exercised .0 ∷ t .terms .draw ∷ [] in
+    let fits : Fits ns = fits-more (t .terms .exercised .0) (t .terms .draw ∷ []) (w .exercised) (fits-more (t .terms .draw) [] (w .draw) fits-none) in
     record { values = row-spells ns fits; rows = rows-spell (lineWidth c) (rowsOf (columns c t)) (columns-fit c t w); plain = plain; lists = w .lists }
 
 -- and make its text
-written-text : (c : Bool) (t : Series) → textWith c t ≡ spelledText c (t .terms .method) (writtenTerms t) (writtenLines c t)
+written-text : (c : Bool) (t : Listing) → textWith c t ≡ spelledText c (t .form) (t .terms .method) (writtenTerms t) (writtenLines c t)
 unfolding textWith writeHead writeTerms spelledText spelledHead spelledTerms
-written-text c t = rw (row-line (exercised t ∷ draw t ∷ []), rows-lines (rowsOf (columns c t)))
+written-text c t = rw (row-line (t .terms .exercised .0 ∷ t .terms .draw ∷ []), rows-lines (rowsOf (columns c t)))
 
 -- the text of a series reads as that series, with the code column or without it
-pub text-back : (c : Bool) (t : Series) → Plain c (t .codes) (t .accounts) → Writable t → length (textWith c t) ≤ MOST_BYTES → readText (textWith c t) ≡ value t
+pub text-back : (c : Bool) (t : Listing) → Plain c (t .codes) (t .accounts) → Writable t → length (textWith c t) ≤ MOST_BYTES → readText (textWith c t) ≡ value t
 text-back c t plain w fits =
     let is = written-text c t in
     ap readText is ∙ any-spelling c t (writtenTerms t) (writtenLines c t) (written-spells c t plain w) (omega (arith, ap length is))
@@ -204,69 +215,69 @@ pub numbers-same : (a b : List ℕ) → a ≡ b → sameNumbers a b ≡ true
 numbers-same a b e = rw (← e) (same-self a)
 
 -- the column is not written exactly where the codes are the accounts
-pub codes-plain : (t : Series) → writesCodes t ≡ false → t .codes ≡ t .accounts
+pub codes-plain : (t : Listing) → writesCodes t ≡ false → t .codes ≡ t .accounts
 unfolding writesCodes
 codes-plain t e = same-numbers (t .codes) (t .accounts) (not-false (sameNumbers (t .codes) (t .accounts)) e)
 
-pub plain-codes : (t : Series) → t .codes ≡ t .accounts → writesCodes t ≡ false
+pub plain-codes : (t : Listing) → t .codes ≡ t .accounts → writesCodes t ≡ false
 unfolding writesCodes
 plain-codes t e = ap not (numbers-same (t .codes) (t .accounts) e)
 
 -- for every method, S, draw and list of at most 1,024 positions of numbers of 32 bits, the text that is written, where it fits, reads as the same series
-pub round-trip : (t : Series) → Writable t → length (writeText t) ≤ MOST_BYTES → readText (writeText t) ≡ value t
+pub round-trip : (t : Listing) → Writable t → length (writeText t) ≤ MOST_BYTES → readText (writeText t) ≡ value t
 unfolding writeText
 round-trip t w fits = text-back (writesCodes t) t (codes-plain t) w fits
 
 -- without the code column it always fits
-pub short-fits : (t : Series) → Writable t → writesCodes t ≡ false → length (writeText t) ≤ MOST_BYTES
+pub short-fits : (t : Listing) → Writable t → writesCodes t ≡ false → length (writeText t) ≤ MOST_BYTES
 unfolding writeText
 short-fits t w e = rw e (omega (arith, ap length (written-text false t), plain-fits t (writtenTerms t) (writtenLines false t) (written-spells false t (λ _. codes-plain t e) w)))
 
 -- where the column is left out, the text without it reads as the series
-pub left-out : (t : Series) → Writable t → writesCodes t ≡ false → readText (textWith false t) ≡ value t
+pub left-out : (t : Listing) → Writable t → writesCodes t ≡ false → readText (textWith false t) ≡ value t
 unfolding writeText
 left-out t w e = rw e at (round-trip t w (short-fits t w e))
 
 -- and only there: the text without it reads as the series whose codes are the accounts
-pub left-out-only : (t : Series) → Writable t → readText (textWith false t) ≡ value t → writesCodes t ≡ false
+pub left-out-only : (t : Listing) → Writable t → readText (textWith false t) ≡ value t → writesCodes t ≡ false
 unfolding textWith
 left-out-only t w back =
-    let u : Series = record { terms = t .terms; codes = t .accounts; accounts = t .accounts; shorts = t .shorts } in
-    let lists : Columns (u .codes) (u .accounts) (u .shorts) = record { codes = refl; shorts = w .lists .shorts; few = w .lists .few } in
-    let wu : Writable u = record { exercised = w .exercised; draw = w .draw; codes = w .accounts; accounts = w .accounts; shorts = w .shorts; lists = lists } in
+    let u : Listing = record { form = t .form; terms = t .terms; codes = t .accounts; accounts = t .accounts; numbers = t .numbers } in
+    let lists : Columns (u .codes) (u .accounts) (u .numbers) = record { codes = refl; numbers = w .lists .numbers; few = w .lists .few } in
+    let wu : Writable u = record { exercised = w .exercised; draw = w .draw; codes = w .accounts; accounts = w .accounts; numbers = w .numbers; lists = lists } in
     let same : u ≡ t = value-is (sym (left-out u wu (plain-codes u refl)) ∙ back) in
-    plain-codes t (sym (ap (λ (s : Series). s .codes) same) ∙ ap (λ (s : Series). s .accounts) same)
+    plain-codes t (sym (ap (λ (s : Listing). s .codes) same) ∙ ap (λ (s : Listing). s .accounts) same)
 
 -- ---- the call that writes
 
 -- what writing wrote, where it answers with a length
-pub record Wrote (t : Series) (room n : ℕ) : Type 0 where
-  pub lists : Columns (t .codes) (t .accounts) (t .shorts)
+pub record Wrote (t : Listing) (room n : ℕ) : Type 0 where
+  pub lists : Columns (t .codes) (t .accounts) (t .numbers)
   pub fits : length (writeText t) ≤ MOST_BYTES
   pub is : writeInto t room ≡ value (writeText t)
   pub long : length (writeText t) ≡ n
 
-pub wrote : (t : Series) (room n : ℕ) → lengthOf (writeInto t room) ≡ value n → Wrote t room n
+pub wrote : (t : Listing) (room n : ℕ) → lengthOf (writeInto t room) ≡ value n → Wrote t room n
 unfolding writeInto lengthOf textWith writeText
 wrote t room n e =
     let c : Bool = writesCodes t in
     let cs : List (List ℕ) = columns c t in
     let s : Text = writeText t in
     let o = stepped (writeInto t room) (λ s. value (length s)) n e in
-    let body = stepped (headAndLines (writeHead c (t .terms)) cs) _ (o .from) (o .step) in
-    let known = lines-known (writeHead c (t .terms)) cs (body .from) (body .step) in
+    let body = stepped (headAndLines (writeHead c (t .form) (t .terms)) cs) _ (o .from) (o .step) in
+    let known = lines-known (writeHead c (t .form) (t .terms)) cs (body .from) (body .step) in
     let most = stepped (refuse (ltb MOST_BYTES (length (body .from))) 11 (body .from)) _ (o .from) (body .on) in
     let fits = not-refused (ltb MOST_BYTES (length (body .from))) 11 (body .from) (most .from) (most .step) in
     let enough = not-refused (ltb room (length (most .from))) 4 (most .from) (o .from) (most .on) in
     let text : s ≡ o .from = known .text ∙ fits .1 ∙ enough .1 in
     record {
-      lists = even-columns c (t .codes) (t .accounts) (t .shorts) (lineCount cs) (codes-plain t) (known .even) (known .few);
+      lists = even-columns c (t .codes) (t .accounts) (t .numbers) (lineCount cs) (codes-plain t) (known .even) (known .few);
       fits = omega (arith, ap length (known .text), ltb-false MOST_BYTES (length (body .from)) (fits .0));
       is = o .step ∙ ap value (sym text);
       long = ap length text ∙ value-is (o .on);
     }
 
 -- a text that would pass 32,768 bytes is refused whatever the output
-pub too-long : (t : Series) → Columns (t .codes) (t .accounts) (t .shorts) → MOST_BYTES < length (writeText t) → (room : ℕ) → writeInto t room ≡ refused 11
+pub too-long : (t : Listing) → Columns (t .codes) (t .accounts) (t .numbers) → MOST_BYTES < length (writeText t) → (room : ℕ) → writeInto t room ≡ refused 11
 unfolding writeInto writeText textWith
-too-long t l over room = rw (lines-written (writeHead (writesCodes t) (t .terms)) (writesCodes t) (t .codes) (t .accounts) (t .shorts) l, lt-ltb MOST_BYTES _ over)
+too-long t l over room = rw (lines-written (writeHead (writesCodes t) (t .form) (t .terms)) (writesCodes t) (t .codes) (t .accounts) (t .numbers) l, lt-ltb MOST_BYTES _ over)

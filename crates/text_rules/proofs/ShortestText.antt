@@ -10,7 +10,8 @@ use lib.Dec.{eqb, ltb}
 use lib.ListN.{length, getD, length-append, length-map}
 use Rattle.series.specs.Ascii.{ascii}
 use Rattle.series.specs.Results.{Result, refused, value, refuse}
-use Rattle.series.specs.Series.{Series, exercised, draw}
+use Rattle.forms.specs.Forms.{Listing}
+use Rattle.forms.specs.declared.Form.{Form}
 use Rattle.series.specs.Sums.{listed}
 use Rattle.series.specs.declared.Method.{Method}
 use Rattle.series.specs.declared.Terms.{Terms}
@@ -18,10 +19,10 @@ use Rattle.series.proofs.ResultLaws.{never, value-is, stepped, not-refused}
 use Rattle.text_rules.specs.Numbers.{decimal}
 use Rattle.text_rules.specs.Fields.{Text, COMMA, Read, fieldBy, endBefore, readFields, writeNumber}
 use Rattle.text_rules.specs.Rows.{numbers, readRows, writeRow, writeRows, rowOf, rowsOf, column}
-use Rattle.text_rules.specs.Names.{line1, line3, namesLine, headingOf, coded, afterLine, headingOr, readNames}
+use Rattle.text_rules.specs.Names.{line1, line3, namesLine, headingOf, formOf, coded, afterLine, headingOr, readNames}
 use Rattle.text_rules.specs.Letters.{letter, methodAmong, methodBy, methodOf}
 use Rattle.text_rules.specs.Lists.{Columns, Plain}
-use Rattle.text_rules.specs.Text.{MOST_BYTES, MOST_LINES, readTerms, Head, readHead, lineWidth, seriesOf, readPositions, readText, writeTerms, writeHead, columns, textWith, writesCodes, writeText}
+use Rattle.text_rules.specs.Text.{MOST_BYTES, MOST_LINES, readTerms, Head, readHead, lineWidth, listingOf, readPositions, readText, writeTerms, writeHead, columns, textWith, writesCodes, writeText}
 use Rattle.text_rules.specs.declared.Heading.{Heading}
 use Rattle.text_rules.proofs.NumberLaws.{padded, padded-length}
 use Rattle.text_rules.proofs.SpellingLaws.{Spells}
@@ -104,30 +105,30 @@ terms-are s x h =
 three-parts : (s a b first second third rest : Text) → s ≡ first ++ a → a ≡ second ++ b → b ≡ third ++ rest → s ≡ (first ++ (second ++ third)) ++ rest
 three-parts s a b first second third rest e f g = e ∙ rw (f, g) (simp append-assoc)
 
--- lines 1 to 3 of a text that reads as a head spell its numbers, in its form
-head-is : (s : Text) (x : Read Head) → readHead s ≡ value x → Starts (spelledHead (x .found .coded)) s (x .found .terms) (x .rest)
+-- lines 1 to 3 of a text that reads as a head spell its numbers, in its form and with its columns
+head-is : (s : Text) (x : Read Head) → readHead s ≡ value x → Starts (spelledHead (x .found .coded) (x .found .form)) s (x .found .terms) (x .rest)
 unfolding readHead spelledHead
 head-is s x h =
     let short = stepped (refuse (ltb MOST_BYTES (length s)) 11 s) _ x h in
     let names = stepped (readNames line1 (short .from)) _ x (short .on) in
     let t = stepped (readTerms (names .from .rest)) _ x (names .on) in
     let lines = stepped (readNames line3 (t .from .rest)) _ x (t .on) in
-    let is : _≡_ {A = Read Head} (record { found = record { terms = t .from .found; coded = coded (lines .from .found) }; rest = lines .from .rest }) x = value-is (lines .on) in
+    let is : _≡_ {A = Read Head} (record { found = record { terms = t .from .found; form = formOf (lines .from .found); coded = coded (lines .from .found) }; rest = lines .from .rest }) x = value-is (lines .on) in
     let terms : Starts spelledTerms (names .from .rest) (t .from .found) (t .from .rest) = terms-are (names .from .rest) (t .from) (t .step) in
     let first : Text = namesLine Heading.Terms in
     let second : Text = spelledTerms (t .from .found .method) (terms .fields) in
-    let third : Text = namesLine (headingOf (coded (lines .from .found))) in
+    let third : Text = namesLine (headingOf (formOf (lines .from .found)) (coded (lines .from .found))) in
     let whole : s ≡ short .from = not-refused (ltb MOST_BYTES (length s)) 11 s (short .from) (short .step) .1 in
-    subst (λ (y : Read Head). Starts (spelledHead (y .found .coded)) s (y .found .terms) (y .rest)) is
+    subst (λ (y : Read Head). Starts (spelledHead (y .found .coded) (y .found .form)) s (y .found .terms) (y .rest)) is
     (record {
       fields = terms .fields;
       text = three-parts s (names .from .rest) (t .from .rest) first second third (lines .from .rest) (whole ∙ names-are (λ _. first) line1 (short .from) (names .from) (refl, tt) (names .step)) (terms .text)
-          (names-are (λ h. namesLine (headingOf (coded h))) line3 (t .from .rest) (lines .from) (refl, (refl, tt)) (lines .step));
+          (names-are (λ h. namesLine (headingOf (formOf h) (coded h))) line3 (t .from .rest) (lines .from) (refl, (refl, (refl, (refl, tt)))) (lines .step));
       spells = terms .spells;
     })
 
 -- a text that reads as a series is not too long
-pub read-fits : (s : Text) (t : Series) → readText s ≡ value t → length s ≤ MOST_BYTES
+pub read-fits : (s : Text) (t : Listing) → readText s ≡ value t → length s ≤ MOST_BYTES
 unfolding readText readHead
 read-fits s t h =
     let top = stepped (readHead s) _ t h in
@@ -137,49 +138,51 @@ read-fits s t h =
 -- ---- the text
 
 -- the text s spells the numbers of the series t, with the code column or without it
-pub record Reads (s : Text) (t : Series) : Type 0 where
+pub record Reads (s : Text) (t : Listing) : Type 0 where
   pub coded : Bool
   pub terms : List Text
   pub lines : List (List Text)
-  pub text : s ≡ spelledText coded (t .terms .method) terms lines
+  pub text : s ≡ spelledText coded (t .form) (t .terms .method) terms lines
   pub spells : TextSpells coded t terms lines
 
 -- what is known of a series r that was made of rows
-record OfRows (c : Bool) (t : Terms) (rows : List (List ℕ)) (r : Series) : Type 0 where
+record OfRows (c : Bool) (f : Form) (t : Terms) (rows : List (List ℕ)) (r : Listing) : Type 0 where
+  form : r .form ≡ f
   terms : r .terms ≡ t
   columns : columns c r ≡ columnsFrom 0 (lineWidth c) rows
   plain : Plain c (r .codes) (r .accounts)
-  lists : Columns (r .codes) (r .accounts) (r .shorts)
+  lists : Columns (r .codes) (r .accounts) (r .numbers)
 
 column-long : (j : ℕ) (rows : List (List ℕ)) → length (column j rows) ≡ length rows
 unfolding column
 column-long j rows = length-map rows (λ r. getD r j 0)
 
 -- the series of rows with a code column or without one
-of-rows : (c : Bool) (t : Terms) (rows : List (List ℕ)) → length rows ≤ MOST_LINES → OfRows c t rows (seriesOf c t rows)
+of-rows : (c : Bool) (f : Form) (t : Terms) (rows : List (List ℕ)) → length rows ≤ MOST_LINES → OfRows c f t rows (listingOf c f t rows)
 unfolding columnsFrom
-of-rows true t rows few = record { terms = refl; columns = refl; plain = λ e. absurd (true≢false e); lists = omega (arith, column-long 0 rows, column-long 1 rows, column-long 2 rows) }
-of-rows false t rows few = record { terms = refl; columns = refl; plain = λ _. refl; lists = omega (arith, column-long 0 rows, column-long 1 rows) }
+of-rows true f t rows few = record { form = refl; terms = refl; columns = refl; plain = λ e. absurd (true≢false e); lists = omega (arith, column-long 0 rows, column-long 1 rows, column-long 2 rows) }
+of-rows false f t rows few = record { form = refl; terms = refl; columns = refl; plain = λ _. refl; lists = omega (arith, column-long 0 rows, column-long 1 rows) }
 
 -- a text that reads as a series spells its numbers
-pub text-is : (s : Text) (t : Series) → readText s ≡ value t → Reads s t
+pub text-is : (s : Text) (t : Listing) → readText s ≡ value t → Reads s t
 unfolding readText readPositions spelledText
 text-is s t h =
     let top = stepped (readHead s) _ t h in
     let T : Terms = top .from .found .terms in
     let c : Bool = top .from .found .coded in
+    let f : Form = top .from .found .form in
     let k : ℕ = lineWidth c in
     let ps = stepped (readRows MOST_LINES k (top .from .rest)) _ t (top .on) in
     let body : Consists MOST_LINES k (top .from .rest) (ps .from) = rows-are MOST_LINES k (top .from .rest) (ps .from) (ps .step) in
-    let of : OfRows c T (ps .from) t = subst (OfRows c T (ps .from)) (value-is (ps .on)) (of-rows c T (ps .from) (body .few)) in
-    let head : Starts (spelledHead c) s (t .terms) (top .from .rest) = subst (λ (t : Terms). Starts (spelledHead c) s t (top .from .rest)) (sym (of .terms)) (head-is s (top .from) (top .step)) in
+    let of : OfRows c f T (ps .from) t = subst (OfRows c f T (ps .from)) (value-is (ps .on)) (of-rows c f T (ps .from) (body .few)) in
+    let head : Starts (spelledHead c (t .form)) s (t .terms) (top .from .rest) = subst (λ (g : Form). Starts (spelledHead c g) s (t .terms) (top .from .rest)) (sym (of .form)) (subst (λ (t : Terms). Starts (spelledHead c f) s t (top .from .rest)) (sym (of .terms)) (head-is s (top .from) (top .step))) in
     let long : Each (λ r. length r ≡ k) (ps .from) = each-so (Figures k) (λ r. length r ≡ k) (ps .from) (λ r row. row .long) (spell-figures k (body .fields) (ps .from) (body .spells)) in
     let rows : rowsOf (columns c t) ≡ ps .from = ap rowsOf (of .columns) ∙ rows-of-columns k (ps .from) (width-some c) long in
     record {
       coded = c;
       terms = head .fields;
       lines = body .fields;
-      text = head .text ∙ ap (λ (l : Text). spelledHead c (t .terms .method) (head .fields) ++ l) (body .text);
+      text = head .text ∙ ap (λ (l : Text). spelledHead c (t .form) (t .terms .method) (head .fields) ++ l) (body .text);
       spells = record { values = head .spells; rows = rw rows (body .spells); plain = of .plain; lists = of .lists };
     }
 
@@ -192,19 +195,19 @@ column-fits k j (r ∷ rows) each zero = each .0 .fits j
 column-fits k j (r ∷ rows) each (suc i) = column-fits k j rows (each .1) i
 
 -- every number of the positions fits 32 bits
-abbrev AllFit : Series → Type 0
-AllFit t = Fits (t .codes) × Fits (t .accounts) × Fits (t .shorts)
+abbrev AllFit : Listing → Type 0
+AllFit t = Fits (t .codes) × Fits (t .accounts) × Fits (t .numbers)
 
-series-fits : (c : Bool) (t : Terms) (rows : List (List ℕ)) → Each (Figures (lineWidth c)) rows → AllFit (seriesOf c t rows)
-series-fits true t rows each = (column-fits 3 0 rows each, column-fits 3 1 rows each, column-fits 3 2 rows each)
-series-fits false t rows each = (column-fits 2 0 rows each, column-fits 2 0 rows each, column-fits 2 1 rows each)
+series-fits : (c : Bool) (f : Form) (t : Terms) (rows : List (List ℕ)) → Each (Figures (lineWidth c)) rows → AllFit (listingOf c f t rows)
+series-fits true f t rows each = (column-fits 3 0 rows each, column-fits 3 1 rows each, column-fits 3 2 rows each)
+series-fits false f t rows each = (column-fits 2 0 rows each, column-fits 2 0 rows each, column-fits 2 1 rows each)
 
-spells-writable : (c : Bool) (t : Series) (terms : List Text) (lines : List (List Text)) → TextSpells c t terms lines → Writable t
+spells-writable : (c : Bool) (t : Listing) (terms : List Text) (lines : List (List Text)) → TextSpells c t terms lines → Writable t
 spells-writable c t terms lines so =
-    let values : Fits (exercised t ∷ draw t ∷ []) = spell-facts terms (exercised t ∷ draw t ∷ []) (so .values) .fits in
+    let values : Fits (t .terms .exercised .0 ∷ t .terms .draw ∷ []) = spell-facts terms (t .terms .exercised .0 ∷ t .terms .draw ∷ []) (so .values) .fits in
     let rows : List (List ℕ) = rowsOf (columns c t) in
-    let fits : AllFit t = subst AllFit (series-back c t (so .plain) (so .lists)) (series-fits c (t .terms) rows (spell-figures (lineWidth c) lines rows (so .rows))) in
-    record { exercised = values 0; draw = values 1; codes = fits .0; accounts = fits .1; shorts = fits .2; lists = so .lists }
+    let fits : AllFit t = subst AllFit (series-back c t (so .plain) (so .lists)) (series-fits c (t .form) (t .terms) rows (spell-figures (lineWidth c) lines rows (so .rows))) in
+    record { exercised = values 0; draw = values 1; codes = fits .0; accounts = fits .1; numbers = fits .2; lists = so .lists }
 
 -- ---- the shortest text
 
@@ -252,16 +255,16 @@ lines-shortest k [] (r ∷ rows) so = absurd so
 lines-shortest k (fs ∷ fss) [] so = absurd so
 lines-shortest k (fs ∷ fss) (r ∷ rows) so = both-parts (writeRow r) (fieldsLine fs) (writeRows rows) (fieldsLines fss) (line-shortest fs r (so .0)) (lines-shortest k fss rows (so .2))
 
--- a text of a series is no longer than one that spells its numbers, in the same form
-spelled-shortest : (c : Bool) (t : Series) (terms : List Text) (lines : List (List Text)) → TextSpells c t terms lines → ShorterOrSame (textWith c t) (spelledText c (t .terms .method) terms lines)
+-- a text of a listing is no longer than one that spells its numbers, with the same columns
+spelled-shortest : (c : Bool) (t : Listing) (terms : List Text) (lines : List (List Text)) → TextSpells c t terms lines → ShorterOrSame (textWith c t) (spelledText c (t .form) (t .terms .method) terms lines)
 unfolding textWith writeHead writeTerms spelledText spelledHead spelledTerms
 spelled-shortest c t terms lines so =
     let first : Text = namesLine Heading.Terms in
-    let third : Text = namesLine (headingOf c) in
+    let third : Text = namesLine (headingOf (t .form) c) in
     let front : Text = letter (t .terms .method) ∷ COMMA ∷ [] in
-    let row : Text = writeRow (exercised t ∷ draw t ∷ []) in
+    let row : Text = writeRow (t .terms .exercised .0 ∷ t .terms .draw ∷ []) in
     let line : Text = fieldsLine terms in
-    let second : ShorterOrSame (front ++ row) (front ++ line) = both-parts front front row line (same-text front) (line-shortest terms (exercised t ∷ draw t ∷ []) (so .values)) in
+    let second : ShorterOrSame (front ++ row) (front ++ line) = both-parts front front row line (same-text front) (line-shortest terms (t .terms .exercised .0 ∷ t .terms .draw ∷ []) (so .values)) in
     let head : ShorterOrSame (first ++ ((front ++ row) ++ third)) (first ++ ((front ++ line) ++ third))
     = both-parts first first ((front ++ row) ++ third) ((front ++ line) ++ third) (same-text first) (both-parts (front ++ row) (front ++ line) third third second (same-text third)) in
     both-parts (first ++ ((front ++ row) ++ third)) (first ++ ((front ++ line) ++ third)) (writeRows (rowsOf (columns c t))) (fieldsLines lines) head
@@ -279,17 +282,23 @@ unfolding rowsOf writeRow
 column-more d c cs e =
     rw e (lines-mono (rowOf (c ∷ cs)) (rowOf (d ∷ c ∷ cs)) (length c) (λ i. let row = rowOf (c ∷ cs) i in omega (arith, length-append (writeNumber (getD d i 0) (endBefore (length row))) (writeRow row))))
 
+-- the names line with a code is longer
+code-longer : (f : Form) → length (namesLine (headingOf f false)) < length (namesLine (headingOf f true))
+unfolding namesLine ascii
+code-longer Form.Shorts = omega arith
+code-longer Form.LastNumbers = omega arith
+
 -- the code column makes a text longer
-codes-longer : (t : Series) → Columns (t .codes) (t .accounts) (t .shorts) → length (textWith false t) < length (textWith true t)
+codes-longer : (t : Listing) → Columns (t .codes) (t .accounts) (t .numbers) → length (textWith false t) < length (textWith true t)
 unfolding textWith namesLine ascii
 codes-longer t l =
     let lines : Bool → Text = λ c. writeRows (rowsOf (columns c t)) in
-    omega (arith, length-append (writeHead true (t .terms)) (lines true), length-append (writeHead false (t .terms)) (lines false), length-head true (t .terms), length-head false (t .terms), column-more (t .codes) (t .accounts) (t .shorts ∷ []) (l .codes))
+    omega (arith, length-append (writeHead true (t .form) (t .terms)) (lines true), length-append (writeHead false (t .form) (t .terms)) (lines false), length-head true (t .form) (t .terms), length-head false (t .form) (t .terms), code-longer (t .form), column-more (t .codes) (t .accounts) (t .numbers ∷ []) (l .codes))
 
--- the form that is written is the shorter of those that read as the series
-form-shortest : (c : Bool) (t : Series) → Plain c (t .codes) (t .accounts) → Columns (t .codes) (t .accounts) (t .shorts) → ShorterOrSame (writeText t) (textWith c t)
+-- of the texts with the code column and without it, the one that is written is the shorter of those that read as the listing
+column-shortest : (c : Bool) (t : Listing) → Plain c (t .codes) (t .accounts) → Columns (t .codes) (t .accounts) (t .numbers) → ShorterOrSame (writeText t) (textWith c t)
 unfolding writeText
-form-shortest c t plain l = go c (writesCodes t) refl plain
+column-shortest c t plain l = go c (writesCodes t) refl plain
   where
     go : (c w : Bool) → writesCodes t ≡ w → Plain c (t .codes) (t .accounts) → ShorterOrSame (textWith w t) (textWith c t)
     go true true e plain = same-text (textWith true t)
@@ -298,15 +307,17 @@ form-shortest c t plain l = go c (writesCodes t) refl plain
     go false true e plain = absurd (true≢false (sym e ∙ plain-codes t (plain refl)))
 
 -- the text that is written is no longer than any that reads as the same series; and one that is as short is the same text
-pub shortest : (s : Text) (t : Series) → readText s ≡ value t → ShorterOrSame (writeText t) s
+pub shortest : (s : Text) (t : Listing) → readText s ≡ value t → ShorterOrSame (writeText t) s
 shortest s t h =
     let is : Reads s t = text-is s t h in
-    let form = form-shortest (is .coded) t (is .spells .plain) (is .spells .lists) in
+    let columns = column-shortest (is .coded) t (is .spells .plain) (is .spells .lists) in
     let fields = spelled-shortest (is .coded) t (is .terms) (is .lines) (is .spells) in
-    rw (is .text) (record { most = omega arith; only = λ le. fields .only (omega arith) ∙ form .only (omega arith) })
+    rw (is .text) (record { most = omega arith; only = λ le. fields .only (omega arith) ∙ columns .only (omega arith) })
 
--- what is read, written and read again is the same series
-pub read-again : (s : Text) (t : Series) → readText s ≡ value t → readText (writeText t) ≡ value t
-read-again s t h =
-    let is : Reads s t = text-is s t h in
-    round-trip t (spells-writable (is .coded) t (is .terms) (is .lines) (is .spells)) (omega (arith, shortest s t h .most, read-fits s t h))
+-- what is read can be written
+pub read-writable : (s : Text) (t : Listing) → readText s ≡ value t → Writable t
+read-writable s t h = let is : Reads s t = text-is s t h in spells-writable (is .coded) t (is .terms) (is .lines) (is .spells)
+
+-- what is read, written and read again is the same listing
+pub read-again : (s : Text) (t : Listing) → readText s ≡ value t → readText (writeText t) ≡ value t
+read-again s t h = round-trip t (read-writable s t h) (omega (arith, shortest s t h .most, read-fits s t h))

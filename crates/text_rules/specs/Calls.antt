@@ -5,28 +5,30 @@ use mathlib.Core.List.{List, [], _∷_, _++_}
 use lib.Dec.{eqb, ltb}
 use lib.ListN.{length}
 use Rattle.series.specs.Results.{Result, value, _>>=_, refuse}
-use Rattle.series.specs.Series.{Series}
 use Rattle.series.specs.declared.Terms.{Terms}
+use Rattle.forms.specs.Forms.{Listing, changed}
+use Rattle.forms.specs.declared.Form.{Form}
 use Rattle.text_rules.specs.Fields.{Text}
 use Rattle.text_rules.specs.Rows.{writeRows, rowsOf}
 use Rattle.text_rules.specs.Text.{MOST_BYTES, MOST_LINES, readText, writeHead, writesCodes, columns}
 
--- what reading hands back: the values of line 2 and the number of positions
+-- what reading hands back: the form, the values of line 2 and the number of positions
 pub record Handed : Type 0 where
+  pub form : Form
   pub terms : Terms
   pub positions : ℕ
 
 -- reading a text into lists of these lengths: last of all 4, where one is shorter than the positions
-unfoldable pub readInto : Text → ℕ → ℕ → ℕ → Result Series
-readInto s codes accounts shorts = do
+unfoldable pub readInto : Text → ℕ → ℕ → ℕ → Result Listing
+readInto s codes accounts numbers = do
   t ← readText s
-  refuse (ltb codes (length (t .accounts)) || (ltb accounts (length (t .accounts)) || ltb shorts (length (t .accounts)))) 4 t
+  refuse (ltb codes (length (t .accounts)) || (ltb accounts (length (t .accounts)) || ltb numbers (length (t .accounts)))) 4 t
 
--- what reading hands back of a series
-unfoldable pub handed : Result Series → Result Handed
+-- what reading hands back of a listing
+unfoldable pub handed : Result Listing → Result Handed
 handed r = do
   t ← r
-  value (record { terms = t .terms; positions = length (t .accounts) })
+  value (record { form = t .form; terms = t .terms; positions = length (t .accounts) })
 
 -- the columns have n numbers each
 unfoldable pub evenly : ℕ → List (List ℕ) → Bool
@@ -50,13 +52,24 @@ linesInto head cs room = do
   lines ← headAndLines head cs
   refuse (ltb room (length lines)) 4 lines
 
--- writing a series to an output of length room: 1, then 15, then 11 where the text would pass 32,768 bytes, then 4.
+-- writing a listing to an output of length room: 1, then 15, then 11 where the text would pass 32,768 bytes, then 4.
 -- Codes of another length than the accounts are not the same numbers, so that their column stands among the others, and 1 is met
-unfoldable pub writeInto : Series → ℕ → Result Text
+unfoldable pub writeInto : Listing → ℕ → Result Text
 writeInto t room = do
-  s ← headAndLines (writeHead (writesCodes t) (t .terms)) (columns (writesCodes t) t)
+  s ← headAndLines (writeHead (writesCodes t) (t .form) (t .terms)) (columns (writesCodes t) t)
   s ← refuse (ltb MOST_BYTES (length s)) 11 s
   refuse (ltb room (length s)) 4 s
+
+-- the change of a text to an output of length room: it is read, its list judged by its method (S and the draw are not), and written in the other form
+unfoldable pub changeInto : Text → ℕ → Result Text
+changeInto s room = do
+  l ← readText s
+  o ← changed l
+  writeInto o room
+
+-- no changed text is longer: lines 1 to 3, and 1,024 lines of at most 31 bytes
+abbrev pub MOST_CHANGED : ℕ
+MOST_CHANGED = 31809
 
 -- writing a table: a names line as given, then a line for each account and its count
 unfoldable pub tableInto : Text → List ℕ → List ℕ → ℕ → Result Text

@@ -1,4 +1,4 @@
--- The lists of a series whose text is written or read.
+-- The lists of a listing whose text is written or read.
 use Prim.Native.Nat.{ℕ, _≤_}
 use mathlib.Core.Path.{_≡_}
 use mathlib.Core.Bool.{Bool, false}
@@ -6,10 +6,10 @@ use mathlib.Core.List.{List}
 use lib.ListN.{length}
 use Rattle.text_rules.specs.Text.{MOST_LINES}
 
--- a code and a number of shorts for each account, and at most 1,024 accounts
-pub record Columns (codes′ accounts′ shorts′ : List ℕ) : Type 0 where
+-- a code and a number, its shorts or its last number, for each account, and at most 1,024 accounts
+pub record Columns (codes′ accounts′ numbers′ : List ℕ) : Type 0 where
   pub codes : length codes′ ≡ length accounts′
-  pub shorts : length shorts′ ≡ length accounts′
+  pub numbers : length numbers′ ≡ length accounts′
   pub few : length accounts′ ≤ MOST_LINES
 
 -- without the code column each code is its account

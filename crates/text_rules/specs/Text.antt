@@ -5,11 +5,12 @@ use mathlib.Core.Bool.{Bool, true, false, not, _&&_}
 use lib.Dec.{eqb, ltb}
 use lib.ListN.{length, getD}
 use Rattle.series.specs.Results.{Result, value, _>>=_, refuse}
-use Rattle.series.specs.Series.{Series}
 use Rattle.series.specs.declared.Terms.{Terms}
+use Rattle.forms.specs.Forms.{Listing}
+use Rattle.forms.specs.declared.Form.{Form}
 use Rattle.text_rules.specs.Fields.{Text, COMMA, Read, fieldBy, readFields}
 use Rattle.text_rules.specs.Rows.{numbers, readRows, writeRow, writeRows, rowsOf, column}
-use Rattle.text_rules.specs.Names.{line1, line3, namesLine, headingOf, coded, readNames}
+use Rattle.text_rules.specs.Names.{line1, line3, namesLine, headingOf, formOf, coded, readNames}
 use Rattle.text_rules.specs.Letters.{letter, methodOf}
 use Rattle.text_rules.specs.declared.Heading.{Heading}
 
@@ -30,9 +31,10 @@ readTerms s = do
   ns ← numbers (fs .found)
   value (record { found = record { method = how; exercised = record { 0 = getD ns 0 0 }; draw = getD ns 1 0 }; rest = fs .rest })
 
--- what lines 1 to 3 hold: the values of line 2, and whether each position line begins with a code
+-- what lines 1 to 3 hold: the values of line 2, the form of the position lines, and whether each begins with a code
 pub record Head : Type 0 where
   pub terms : Terms
+  pub form : Form
   pub coded : Bool
 
 -- lines 1 to 3 of a text that is not too long, and the position lines
@@ -42,26 +44,26 @@ readHead s = do
   names ← readNames line1 s
   t ← readTerms (names .rest)
   columns ← readNames line3 (t .rest)
-  value (record { found = record { terms = t .found; coded = coded (columns .found) }; rest = columns .rest })
+  value (record { found = record { terms = t .found; form = formOf (columns .found); coded = coded (columns .found) }; rest = columns .rest })
 
--- how many numbers a position line has: code, account and shorts, or account and shorts
+-- how many numbers a position line has: code, account and its shorts or last number, or the latter two
 abbrev pub lineWidth : Bool → ℕ
 lineWidth true = 3
 lineWidth false = 2
 
--- the series of position lines; with the short names line the code is the account number
-abbrev pub seriesOf : Bool → Terms → List (List ℕ) → Series
-seriesOf true t ps = record { terms = t; codes = column 0 ps; accounts = column 1 ps; shorts = column 2 ps }
-seriesOf false t ps = record { terms = t; codes = column 0 ps; accounts = column 0 ps; shorts = column 1 ps }
+-- the listing of position lines; without a code column the code is the account number
+abbrev pub listingOf : Bool → Form → Terms → List (List ℕ) → Listing
+listingOf true f t ps = record { form = f; terms = t; codes = column 0 ps; accounts = column 1 ps; numbers = column 2 ps }
+listingOf false f t ps = record { form = f; terms = t; codes = column 0 ps; accounts = column 0 ps; numbers = column 1 ps }
 
 -- the position lines after lines 1 to 3
-unfoldable pub readPositions : Head → Text → Result Series
+unfoldable pub readPositions : Head → Text → Result Listing
 readPositions h s = do
   ps ← readRows MOST_LINES (lineWidth (h .coded)) s
-  value (seriesOf (h .coded) (h .terms) ps)
+  value (listingOf (h .coded) (h .form) (h .terms) ps)
 
 -- a text, its lines in the order of the text
-unfoldable pub readText : Text → Result Series
+unfoldable pub readText : Text → Result Listing
 readText s = do
   h ← readHead s
   readPositions (h .found) (h .rest)
@@ -70,22 +72,22 @@ readText s = do
 unfoldable pub writeTerms : Terms → Text
 writeTerms t = letter (t .method) ∷ COMMA ∷ writeRow (t .exercised .0 ∷ t .draw ∷ [])
 
--- lines 1 to 3, for position lines with a code or without one
-unfoldable pub writeHead : Bool → Terms → Text
-writeHead c t = namesLine Heading.Terms ++ (writeTerms t ++ namesLine (headingOf c))
+-- lines 1 to 3, for position lines in a form, with a code or without one
+unfoldable pub writeHead : Bool → Form → Terms → Text
+writeHead c f t = namesLine Heading.Terms ++ (writeTerms t ++ namesLine (headingOf f c))
 
 -- the columns of the position lines, with the codes or without them
 abbrev pub columnsBy : Bool → List ℕ → List ℕ → List ℕ → List (List ℕ)
-columnsBy true codes accounts shorts = codes ∷ accounts ∷ shorts ∷ []
-columnsBy false codes accounts shorts = accounts ∷ shorts ∷ []
+columnsBy true codes accounts numbers = codes ∷ accounts ∷ numbers ∷ []
+columnsBy false codes accounts numbers = accounts ∷ numbers ∷ []
 
--- those of a series
-abbrev pub columns : Bool → Series → List (List ℕ)
-columns c t = columnsBy c (t .codes) (t .accounts) (t .shorts)
+-- those of a listing
+abbrev pub columns : Bool → Listing → List (List ℕ)
+columns c t = columnsBy c (t .codes) (t .accounts) (t .numbers)
 
--- the text of a series, with the code column or without it
-unfoldable pub textWith : Bool → Series → Text
-textWith c t = writeHead c (t .terms) ++ writeRows (rowsOf (columns c t))
+-- the text of a listing, with the code column or without it
+unfoldable pub textWith : Bool → Listing → Text
+textWith c t = writeHead c (t .form) (t .terms) ++ writeRows (rowsOf (columns c t))
 
 -- the two lists hold the same numbers
 unfoldable pub sameNumbers : List ℕ → List ℕ → Bool
@@ -95,9 +97,9 @@ sameNumbers (m ∷ ms) [] = false
 sameNumbers (m ∷ ms) (n ∷ ns) = eqb m n && sameNumbers ms ns
 
 -- the code column is written: not every code is its account
-unfoldable pub writesCodes : Series → Bool
+unfoldable pub writesCodes : Listing → Bool
 writesCodes t = not (sameNumbers (t .codes) (t .accounts))
 
--- the text of a series: the code column is left out exactly where the text without it reads back as the same series (`left-out` and `left-out-only` in RoundTrip)
-unfoldable pub writeText : Series → Text
+-- the text of a listing: the code column is left out exactly where the text without it reads back as the same listing (`left-out` and `left-out-only` in RoundTrip)
+unfoldable pub writeText : Listing → Text
 writeText t = textWith (writesCodes t) t

@@ -11,7 +11,8 @@ use lib.ListN.{length, getD, take, drop, set, length-append, length-drop, length
 use lib.Seq.{drop-cons, take-all}
 use lib.Dec.{eqb, ltb}
 use Rattle.series.specs.Results.{Result, refused, value, _>>=_, refuse, after}
-use Rattle.series.specs.Series.{Series}
+use Rattle.forms.specs.Forms.{Listing}
+use Rattle.forms.specs.declared.Form.{Form}
 use Rattle.series.specs.Outputs.{onto}
 use Rattle.series.specs.Sums.{listed}
 use Rattle.series.specs.declared.Terms.{Terms}
@@ -44,12 +45,12 @@ put-terms t old at new n fits p =
     put-append (l ∷ COMMA ∷ []) (writeRow (t .exercised .0 ∷ t .draw ∷ [])) old at (set (set old at l) (at + 1) COMMA) new (at + 2) n (omega arith) both p
 
 -- the three lines are put one after the other
-pub put-head : (c : Bool) (t : Terms) (old s1 s2 new : List ℕ) (i1 i2 n : ℕ) → length (writeHead c t) ≤ length old → length s1 ≡ length old → Put (namesLine Heading.Terms) old 0 s1 i1
-    → Put (writeRow (t .exercised .0 ∷ t .draw ∷ [])) (set (set s1 i1 (letter (t .method))) (i1 + 1) COMMA) (i1 + 2) s2 i2 → Put (namesLine (headingOf c)) s2 i2 new n → Put (writeHead c t) old 0 new n
+pub put-head : (c : Bool) (f : Form) (t : Terms) (old s1 s2 new : List ℕ) (i1 i2 n : ℕ) → length (writeHead c f t) ≤ length old → length s1 ≡ length old → Put (namesLine Heading.Terms) old 0 s1 i1
+    → Put (writeRow (t .exercised .0 ∷ t .draw ∷ [])) (set (set s1 i1 (letter (t .method))) (i1 + 1) COMMA) (i1 + 2) s2 i2 → Put (namesLine (headingOf f c)) s2 i2 new n → Put (writeHead c f t) old 0 new n
 unfolding writeHead
-put-head c t old s1 s2 new i1 i2 n room long p1 p2 p3 =
+put-head c f t old s1 s2 new i1 i2 n room long p1 p2 p3 =
     let names : Text = namesLine Heading.Terms in
-    let columns : Text = namesLine (headingOf c) in
+    let columns : Text = namesLine (headingOf f c) in
     let e1 = length-append names (writeTerms t ++ columns) in
     let e2 = length-append (writeTerms t) columns in
     let e3 = length-append names (writeTerms t) in
@@ -253,7 +254,7 @@ module _ (head : Text) (cs : List (List ℕ)) (n : ℕ) (m : Measured head cs n)
   unfolding linesInto
   lines-put room new k p = leaves-put _ old (head ++ writeRows (rowsOf cs)) new k (rw (m .is, ← m .bytes, le-ltb (length old) n room)) p
 
-module _ (t : Series) (n : ℕ) (m : Measured (writeHead (writesCodes t) (t .terms)) (columns (writesCodes t) t) n) (old : Text) where
+module _ (t : Listing) (n : ℕ) (m : Measured (writeHead (writesCodes t) (t .form) (t .terms)) (columns (writesCodes t) t) n) (old : Text) where
   -- the text would pass 32,768 bytes
   pub text-long : MOST_BYTES < n → Leaves (writeInto t (length old)) old (refused 11) old
   unfolding writeInto
@@ -264,7 +265,7 @@ module _ (t : Series) (n : ℕ) (m : Measured (writeHead (writesCodes t) (t .ter
     unfolding writeInto
     text-short over = leaves-kept _ old 4 (rw (m .is, ← m .bytes, le-ltb MOST_BYTES n fits, ← m .bytes, lt-ltb (length old) n over))
 
-    pub text-put : n ≤ length old → (new : Text) (k : ℕ) → Put (writeHead (writesCodes t) (t .terms) ++ writeRows (rowsOf (columns (writesCodes t) t))) old 0 new k → Leaves (writeInto t (length old)) old (value k) new
+    pub text-put : n ≤ length old → (new : Text) (k : ℕ) → Put (writeHead (writesCodes t) (t .form) (t .terms) ++ writeRows (rowsOf (columns (writesCodes t) t))) old 0 new k → Leaves (writeInto t (length old)) old (value k) new
     unfolding writeInto
     text-put room new k p = leaves-put _ old _ new k (rw (m .is, ← m .bytes, le-ltb MOST_BYTES n fits, ← m .bytes, le-ltb (length old) n room)) p
 

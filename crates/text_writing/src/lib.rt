@@ -4,6 +4,7 @@ mod put;
 mod row;
 mod table;
 
+use forms::Form;
 use series::Refusal;
 use series::Terms;
 use series_text::letters::letter_of;
@@ -29,9 +30,9 @@ pub enum Writing {
 }
 
 // Puts lines 1 to 3 at the start of a head, and hands back their length.
-fn put_head(head: &mut [u8], coded: bool, terms: Terms) -> usize
+fn put_head(head: &mut [u8], coded: bool, form: Form, terms: Terms) -> usize
     requires { ⌜ 65 ≤ length (now head) ⌝ }
-    ensures { λ r. ⌜ Put (writeHead coded terms) (now (head .entry)) 0 (now (head .exit)) r ⌝ }
+    ensures { λ r. ⌜ Put (writeHead coded form terms) (now (head .entry)) 0 (now (head .exit)) r ⌝ }
 {
     let line2 = names::put_names(head, 0, Heading::Terms);
     let method = terms.method;
@@ -39,7 +40,7 @@ fn put_head(head: &mut [u8], coded: bool, terms: Terms) -> usize
     head[line2 + 1] = b',';
     let exercised = terms.exercised;
     let line3 = row::put_row(head, line2 + 2, &[exercised.0, terms.draw]);
-    names::put_names(head, line3, heading_of(coded))
+    names::put_names(head, line3, heading_of(form, coded))
 }
 
 // Whether two lists hold the same numbers.
@@ -59,23 +60,24 @@ fn same_numbers(first: &[u32], second: &[u32]) -> bool
     true
 }
 
-// Writes the text of a series, without its codes where every code is its account. A refusal writes nothing, and bytes past the text are kept.
+// Writes the text of a series in a form, without its codes where every code is its account. A refusal writes nothing, and bytes past the text are kept.
 pub fn write(
+    form: Form,
     terms: Terms,
     codes: &[u32],
     accounts: &[u32],
-    shorts: &[u32],
+    numbers: &[u32],
     text: &mut [u8],
 ) -> Writing
-    ensures { λ r. ⌜ writingOf r ≡ lengthOf (writeInto (record { terms = terms; codes = now (codes .entry); accounts = now (accounts .entry); shorts = now (shorts .entry) }) (length (now (text .entry)))) ⌝ }
-    ensures { λ _. ⌜ now (text .exit) ≡ after (writeInto (record { terms = terms; codes = now (codes .entry); accounts = now (accounts .entry); shorts = now (shorts .entry) }) (length (now (text .entry)))) (λ s. onto s (now (text .entry))) (now (text .entry)) ⌝ }
+    ensures { λ r. ⌜ writingOf r ≡ lengthOf (writeInto (record { form = form; terms = terms; codes = now (codes .entry); accounts = now (accounts .entry); numbers = now (numbers .entry) }) (length (now (text .entry)))) ⌝ }
+    ensures { λ _. ⌜ now (text .exit) ≡ after (writeInto (record { form = form; terms = terms; codes = now (codes .entry); accounts = now (accounts .entry); numbers = now (numbers .entry) }) (length (now (text .entry)))) (λ s. onto s (now (text .entry))) (now (text .entry)) ⌝ }
 {
     let coded = !same_numbers(codes, accounts);
     let mut lines = [0u8; 65];
-    let n = put_head(&mut lines, coded, terms);
+    let n = put_head(&mut lines, coded, form, terms);
     let head = &lines[..n];
     let left_out = table::left_out_of(coded);
-    match table::measure(head, left_out, accounts, accounts, codes, accounts, shorts) {
+    match table::measure(head, left_out, accounts, accounts, codes, accounts, numbers) {
         Writing::Refused(refusal) => Writing::Refused(refusal),
         Writing::Written(bytes) => {
             if bytes > 32768 {
@@ -93,7 +95,7 @@ pub fn write(
                 accounts,
                 codes,
                 accounts,
-                shorts,
+                numbers,
             ))
         }
     }

@@ -1,6 +1,8 @@
 // Writing the names lines.
 use crate::put::put_line;
+use series_text::names::CODED_LAST_NAMES;
 use series_text::names::CODED_NAMES;
+use series_text::names::LAST_NAMES;
 use series_text::names::POSITION_NAMES;
 use series_text::names::TERMS_NAMES;
 use text_rules::Heading;
@@ -18,5 +20,7 @@ pub fn put_names(text: &mut [u8], at: usize, heading: Heading) -> usize
         Heading::Terms => put_line(text, at, &TERMS_NAMES),
         Heading::Positions => put_line(text, at, &POSITION_NAMES),
         Heading::CodedPositions => put_line(text, at, &CODED_NAMES),
+        Heading::LastNumbers => put_line(text, at, &LAST_NAMES),
+        Heading::CodedLastNumbers => put_line(text, at, &CODED_LAST_NAMES),
     }
 }

@@ -6,7 +6,7 @@ use lib.ListN.{drop}
 use Rattle.text_rules.specs.Text.{MOST_LINES, readHead}
 use Rattle.series_text.specs.Parts.{headMeans, positionsMean, positionsWithin}
 use Rattle.series_text.specs.declared.lines.HeadLines.{HeadLines}
-use Rattle.text_rules.proofs.ReadLaws.{PositionsRead, head-refused, positions-fault, codes-short, accounts-short, shorts-short, read-all}
+use Rattle.text_rules.proofs.ReadLaws.{PositionsRead, head-refused, positions-fault, codes-short, accounts-short, numbers-short, read-all}
 use Rattle.series_text.proofs.read.Statement.{statement}
 use Rattle.series_text.proofs.read.Tie as tie
 
@@ -19,19 +19,19 @@ lines c = c .before .before .before .before .before .before .before .before .bef
 
 -- what the calls on the way answered
 head : (c : tie.After-known-told2) → let s = start c .args .text .now in
-    let line = c .before .head2 .given .0 in headMeans s (HeadLines.Head (line .0) (line .1 .0) (line .1 .1 .0)) ≡ readHead s
+    let line = c .before .head2 .given .0 in headMeans s (HeadLines.Head (line .0) (line .1 .0) (line .1 .1 .0) (line .1 .1 .1 .0)) ≡ readHead s
 head c = ap (headMeans _) (sym (c .before .head2 .given .1)) ∙ c .before .before .before .read-head .ensures
 
 positions : (c : tie.After-known-told4) → let lists = c .before .before .before .before .before .before .read-positions .last .1 .1 .1 in
     let line = lines c .before .head2 .given .0 in
-    PositionsRead (record { terms = line .0; coded = line .1 .0 }) (drop (line .1 .1 .0) (start (lines c) .args .text .now)) (lists .0) (lists .1 .0) (lists .1 .1 .0) (c .before .n .given .0 .0)
+    PositionsRead (record { terms = line .0; form = line .1 .0; coded = line .1 .1 .0 }) (drop (line .1 .1 .1 .0) (start (lines c) .args .text .now)) (lists .0) (lists .1 .0) (lists .1 .1 .0) (c .before .n .given .0 .0)
 positions c = let p = c .before .before .before .before .before .before .read-positions in
     let few : c .before .n .given .0 .0 ≤ MOST_LINES = subst positionsWithin (c .before .n .given .1) (p .ensures .1) in
     record {
-      reads = ap (positionsMean _ _ _ _) (sym (c .before .n .given .1)) ∙ p .ensures .0 _;
+      reads = ap (positionsMean _ _ _ _ _) (sym (c .before .n .given .1)) ∙ p .ensures .0 _ _;
       in-codes = rw (p .kept .1 .1 .1 .0) few;
       in-accounts = rw (p .kept .1 .1 .1 .1 .0) few;
-      in-shorts = rw (p .kept .1 .1 .1 .1 .1 .0) few;
+      in-numbers = rw (p .kept .1 .1 .1 .1 .1 .0) few;
     }
 
 read-head-requires : tie.Need-read-head-requires
@@ -64,17 +64,17 @@ enum-known-n c = c .match2 .keys2
 returns : tie.Need-returns
 returns c = let read = c .before in
     let a = start (lines read) .args in
-    codes-short (a .text .now) (a .codes .now) (a .accounts .now) (a .shorts .now) (head (lines read)) (positions read) (c .if1 .taken)
+    codes-short (a .text .now) (a .codes .now) (a .accounts .now) (a .numbers .now) (head (lines read)) (positions read) (c .if1 .taken)
 
 returns-2 : tie.Need-returns-2
 returns-2 c = let read = c .before .before in
     let a = start (lines read) .args in
-    accounts-short (a .text .now) (a .codes .now) (a .accounts .now) (a .shorts .now) (head (lines read)) (positions read) (c .if2 .taken)
+    accounts-short (a .text .now) (a .codes .now) (a .accounts .now) (a .numbers .now) (head (lines read)) (positions read) (c .if2 .taken)
 
 returns-3 : tie.Need-returns-3
 returns-3 c = let read = c .before .before .before in
     let a = start (lines read) .args in
-    shorts-short (a .text .now) (a .codes .now) (a .accounts .now) (a .shorts .now) (head (lines read)) (positions read) (c .if3 .taken)
+    numbers-short (a .text .now) (a .codes .now) (a .accounts .now) (a .numbers .now) (head (lines read)) (positions read) (c .if3 .taken)
 
 slice-aggregate-copy-first : tie.Need-slice-aggregate-copy-first
 slice-aggregate-copy-first c = search needs
@@ -92,16 +92,16 @@ slice-aggregate-copy-first-3 : tie.Need-slice-aggregate-copy-first-3
 slice-aggregate-copy-first-3 c = search needs
 
 copy-first-requires-3 : tie.Need-copy-first-requires-3
-copy-first-requires-3 c κs = let fit = c .before .before .before .before .before .before .before .before .before .before .before .before in (positions (fit .before .before .before) .in-shorts, fit .if3 .left)
+copy-first-requires-3 c κs = let fit = c .before .before .before .before .before .before .before .before .before .before .before .before in (positions (fit .before .before .before) .in-numbers, fit .if3 .left)
 
 returns-4 : tie.Need-returns-4
 returns-4 c = let a = c .before .before .before .before .before .before .before .before .args in
-    head-refused (a .text .now) (a .codes .now) (a .accounts .now) (a .shorts .now) (ap (headMeans _) (sym (c .before .head .given .1)) ∙ c .before .before .before .read-head .ensures)
+    head-refused (a .text .now) (a .codes .now) (a .accounts .now) (a .numbers .now) (ap (headMeans _) (sym (c .before .head .given .1)) ∙ c .before .before .before .read-head .ensures)
 
 returns-5 : tie.Need-returns-5
 returns-5 c = let call = c .before .before .before .before .before .before in
     let a = start (call .before .before .before .before) .args in
-    positions-fault (a .text .now) (a .codes .now) (a .accounts .now) (a .shorts .now) (head (call .before .before .before .before)) (ap (positionsMean _ _ _ _) (sym (c .before .refusal .given .1)) ∙ call .read-positions .ensures .0 _)
+    positions-fault (a .text .now) (a .codes .now) (a .accounts .now) (a .numbers .now) (head (call .before .before .before .before)) (ap (positionsMean _ _ _ _ _) (sym (c .before .refusal .given .1)) ∙ call .read-positions .ensures .0 _ _)
 
 same-length : tie.Need-same-length
 same-length c = search needs
@@ -119,7 +119,7 @@ returns-6 c = let third = c .before .before in
     let fit = first .before .before .before in
     let read = fit .before .before .before in
     let a = start (lines read) .args in
-    read-all (a .text .now) (a .codes .now) (a .accounts .now) (a .shorts .now) (head (lines read)) (positions read) (fit .before .before .if1 .left) (fit .before .if2 .left) (fit .if3 .left) (first .copy-first .ensures) (second .copy-first2 .ensures) (third .copy-first3 .ensures)
+    read-all (a .text .now) (a .codes .now) (a .accounts .now) (a .numbers .now) (head (lines read)) (positions read) (fit .before .before .if1 .left) (fit .before .if2 .left) (fit .if3 .left) (first .copy-first .ensures) (second .copy-first2 .ensures) (third .copy-first3 .ensures)
 
 pub read-spec : {M : Type 1} → statement M
 read-spec =

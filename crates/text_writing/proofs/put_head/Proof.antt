@@ -14,8 +14,8 @@ use Rattle.text_writing.proofs.put_head.Statement.{statement}
 use Rattle.text_writing.proofs.put_head.Tie as tie
 
 -- there is room for the three lines
-room : (s : tie.Start) → length (namesLine Heading.Terms) + (2 + length (writeRow (s .args .terms .exercised .0 ∷ s .args .terms .draw ∷ []))) + length (namesLine (headingOf (s .args .coded))) ≤ length (s .args .head .now)
-room s = omega (arith, length-head (s .args .coded) (s .args .terms), head-room (s .args .coded) (s .args .terms), s .pre)
+room : (s : tie.Start) → length (namesLine Heading.Terms) + (2 + length (writeRow (s .args .terms .exercised .0 ∷ s .args .terms .draw ∷ []))) + length (namesLine (headingOf (s .args .form) (s .args .coded))) ≤ length (s .args .head .now)
+room s = omega (arith, length-head (s .args .coded) (s .args .form) (s .args .terms), head-room (s .args .coded) (s .args .form) (s .args .terms), s .pre)
 
 put-names-requires : tie.Need-put-names-requires
 put-names-requires c κs = omega (arith, room (c .before .before))
@@ -51,7 +51,7 @@ same-length : tie.Need-same-length
 same-length c = c .before .before .put-names2 .kept .0 ∙ c .before .before .before .before .before .before .before .put-row .kept .0 ∙ simp length-set (c .before .before .before .before .before .before .before .before .before .before .before .before .before .before .put-names .kept .0)
 
 returns : tie.Need-returns
-returns c = let s = c .before .before .before .before .before .before .before .before .before .before .before .before .before .before .before .before .before in let a = s .args in put-head (a .coded) (a .terms) (a .head .now) _ _ _ _ _ _ (omega (arith, room s, length-head (a .coded) (a .terms))) (c .before .before .before .before .before .before .before .before .before .before .before .before .before .before .put-names .kept .0) (c .before .before .before .before .before .before .before .before .before .before .before .before .before .before .put-names .ensures) (rw (c .before .before .before .before .before .before .before .before .before .before .before .letter-of .ensures) at (c .before .before .before .before .before .before .before .put-row .ensures)) (rw (c .before .before .before .heading-of .ensures) at (c .before .before .put-names2 .ensures))
+returns c = let s = c .before .before .before .before .before .before .before .before .before .before .before .before .before .before .before .before .before in let a = s .args in put-head (a .coded) (a .form) (a .terms) (a .head .now) _ _ _ _ _ _ (omega (arith, room s, length-head (a .coded) (a .form) (a .terms))) (c .before .before .before .before .before .before .before .before .before .before .before .before .before .before .put-names .kept .0) (c .before .before .before .before .before .before .before .before .before .before .before .before .before .before .put-names .ensures) (rw (c .before .before .before .before .before .before .before .before .before .before .before .letter-of .ensures) at (c .before .before .before .before .before .before .before .put-row .ensures)) (rw (c .before .before .before .heading-of .ensures) at (c .before .before .put-names2 .ensures))
 
 pub put-head-spec : {M : Type 1} → statement M
 put-head-spec =

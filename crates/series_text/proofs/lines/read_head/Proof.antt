@@ -57,6 +57,9 @@ enum-told-2 c = search needs
 returns-3 : tie.Need-returns-3
 returns-3 c = head-columns _ (omega arith) (names (c .before .before .before .before .before .before .before)) (terms (c .before .before .before)) (ap (namesMean _) (sym (c .enum-told2 .given .1)) ∙ c .before .before .read-columns .ensures)
 
+form-of-requires : tie.Need-form-of-requires
+form-of-requires c κs = search needs
+
 is-coded-requires : tie.Need-is-coded-requires
 is-coded-requires c κs = search needs
 
@@ -64,9 +67,9 @@ returns-4 : tie.Need-returns-4
 returns-4 c = head-terms _ (omega arith) (names (c .before .before .before .before)) (ap (termsMeans _) (sym (c .before .refusal .given .1)) ∙ c .before .before .before .read-terms .ensures)
 
 returns-5 : tie.Need-returns-5
-returns-5 c = let line3 = c .before .before in
+returns-5 c = let line3 = c .before .before .before in
     let line1 = line3 .before .before .before .before .before .before .before in
-    rw (c .is-coded .ensures)
+    rw (c .before .form-of .ensures, c .is-coded .ensures)
     (head-all _ (line1 .before .before .before .before .if1 .left) (names line1) (terms (line3 .before .before .before)) (ap (namesMean _) (sym (line3 .heading .given .1)) ∙ line3 .before .before .read-columns .ensures))
 
 pub read-head-spec : {M : Type 1} → statement M
@@ -85,6 +88,7 @@ read-head-spec =
     enum-known-heading
     enum-told-2
     returns-3
+    form-of-requires
     is-coded-requires
     returns-4
     returns-5)

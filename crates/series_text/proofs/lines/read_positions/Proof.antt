@@ -16,12 +16,12 @@ use Rattle.series_text.proofs.lines.read_positions.Statement.{statement
 use Rattle.series_text.proofs.lines.read_positions.Tie as tie
 
 abbrev Inv-loop : tie.InvT-loop
-Inv-loop text from coded codes₀ accounts₀ shorts₀ row₀ at₀ n₀ codes accounts shorts row at n =
-    (n ≤ MOST_LINES) × (length codes ≡ length codes₀) × (length accounts ≡ length accounts₀) × (length shorts ≡ length shorts₀) × (length row ≡ 3)
-    × RowsTo MOST_LINES coded text from (rowsOf (take n codes ∷ take n accounts ∷ take n shorts ∷ [])) at n
+Inv-loop text from coded codes₀ accounts₀ numbers₀ row₀ at₀ n₀ codes accounts numbers row at n =
+    (n ≤ MOST_LINES) × (length codes ≡ length codes₀) × (length accounts ≡ length accounts₀) × (length numbers ≡ length numbers₀) × (length row ≡ 3)
+    × RowsTo MOST_LINES coded text from (rowsOf (take n codes ∷ take n accounts ∷ take n numbers ∷ [])) at n
 
 abbrev μ-loop : tie.MeasureT-loop
-μ-loop text from coded codes₀ accounts₀ shorts₀ row₀ at₀ n₀ codes accounts shorts row at n = MOST_LINES - n
+μ-loop text from coded codes₀ accounts₀ numbers₀ row₀ at₀ n₀ codes accounts numbers row at n = MOST_LINES - n
 
 loop-holds : tie.Need-loop-holds Inv-loop μ-loop
 unfolding rowsOf listed
@@ -37,7 +37,7 @@ same-length-3 : tie.Need-same-length-3 Inv-loop μ-loop
 same-length-3 c = omega arith
 
 returns : tie.Need-returns Inv-loop μ-loop
-returns c = (λ t. positions-refused _ t _ (rows-over (c .before .before .loop .inv .5) (omega arith) (omega arith)), tt)
+returns c = (λ f t. positions-refused _ f t _ (rows-over (c .before .before .loop .inv .5) (omega arith) (omega arith)), tt)
 
 slice-aggregate-read-position : tie.Need-slice-aggregate-read-position Inv-loop μ-loop
 slice-aggregate-read-position c = omega arith
@@ -62,7 +62,7 @@ same-length-6 c = omega arith
 
 returns-2 : tie.Need-returns-2 Inv-loop μ-loop
 returns-2 c = (
-  λ t. positions-refused _ t _
+  λ f t. positions-refused _ f t _
       (rows-malformed (c .before .before .before .before .before .before .before .loop .inv .5) (omega arith) (omega arith) (ap (rowMeans _ _) (sym (c .enum-told .given .1)) ∙ c .before .before .before .read-position .ensures)),
   tt,
 )
@@ -85,14 +85,14 @@ mul-accounts c = omega arith
 slice-write-accounts : tie.Need-slice-write-accounts Inv-loop μ-loop
 slice-write-accounts c = omega arith
 
-array-read-shorts : tie.Need-array-read-shorts Inv-loop μ-loop
-array-read-shorts c = search needs
+array-read-numbers : tie.Need-array-read-numbers Inv-loop μ-loop
+array-read-numbers c = search needs
 
-mul-shorts : tie.Need-mul-shorts Inv-loop μ-loop
-mul-shorts c = omega arith
+mul-numbers : tie.Need-mul-numbers Inv-loop μ-loop
+mul-numbers c = omega arith
 
-slice-write-shorts : tie.Need-slice-write-shorts Inv-loop μ-loop
-slice-write-shorts c = omega arith
+slice-write-numbers : tie.Need-slice-write-numbers Inv-loop μ-loop
+slice-write-numbers c = omega arith
 
 add-n : tie.Need-add-n Inv-loop μ-loop
 add-n c = omega arith
@@ -109,9 +109,9 @@ loop-again c = let l = c .before .before .before .before .before .before .before
       omega arith,
       length-set (l .codes) (l .n) _ ∙ l .inv .1,
       length-set (l .accounts) (l .n) _ ∙ l .inv .2,
-      length-set (l .shorts) (l .n) _ ∙ l .inv .3,
+      length-set (l .numbers) (l .n) _ ∙ l .inv .3,
       three,
-      rw (← rows-set (l .codes) (l .accounts) (l .shorts) (l .n) row (omega arith) (omega arith) (omega arith) three) at more,
+      rw (← rows-set (l .codes) (l .accounts) (l .numbers) (l .n) row (omega arith) (omega arith) (omega arith) three) at more,
     )
 
 same-length-7 : tie.Need-same-length-7 Inv-loop μ-loop
@@ -127,8 +127,8 @@ returns-3 : tie.Need-returns-3 Inv-loop μ-loop
 returns-3 c = let l = c .before .loop in
     let n = length-take-le (l .n) (l .codes) (omega arith) in
     let accounts = length-take-le (l .n) (l .accounts) (omega arith) in
-    let shorts = length-take-le (l .n) (l .shorts) (omega arith) in
-    (λ t. positions-all _ t _ (accounts ∙ sym n) (shorts ∙ sym n) (rows-end (l .inv .5) (omega arith)), l .inv .0)
+    let numbers = length-take-le (l .n) (l .numbers) (omega arith) in
+    (λ f t. positions-all _ f t _ (accounts ∙ sym n) (numbers ∙ sym n) (rows-end (l .inv .5) (omega arith)), l .inv .0)
 
 pub read-positions-spec : {M : Type 1} → statement M
 read-positions-spec =
@@ -155,9 +155,9 @@ read-positions-spec =
     array-read-accounts
     mul-accounts
     slice-write-accounts
-    array-read-shorts
-    mul-shorts
-    slice-write-shorts
+    array-read-numbers
+    mul-numbers
+    slice-write-numbers
     add-n
     loop-less
     loop-again

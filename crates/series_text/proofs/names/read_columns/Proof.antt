@@ -1,13 +1,15 @@
--- `names::read_columns` meets its contract: the short heading, else the other.
+-- `names::read_columns` meets its contract: one of the first two headings, else one of the other two.
 use mathlib.Core.Path.{sym, ap, _∙_}
+use mathlib.Core.List.{[], _∷_}
 use borrow.Author.Needs.{needs}
+use Rattle.text_rules.specs.declared.Heading.{Heading}
 use Rattle.series_text.specs.Parts.{namesMean}
 use Rattle.series_text.proofs.LineLaws.{names-first, names-other}
 use Rattle.series_text.proofs.names.read_columns.Statement.{statement}
 use Rattle.series_text.proofs.names.read_columns.Tie as tie
 
-read-names-requires : tie.Need-read-names-requires
-read-names-requires c κs = search needs
+read-either-requires : tie.Need-read-either-requires
+read-either-requires c κs = search needs
 
 enum-known-heading : tie.Need-enum-known-heading
 enum-known-heading c = search needs
@@ -15,22 +17,22 @@ enum-known-heading c = search needs
 enum-told : tie.Need-enum-told
 enum-told c = search needs
 
-read-names-requires-2 : tie.Need-read-names-requires-2
-read-names-requires-2 c κs = search needs
+read-either-requires-2 : tie.Need-read-either-requires-2
+read-either-requires-2 c κs = search needs
 
 returns : tie.Need-returns
-returns c = c .read-names2 .ensures ∙ names-other _ _ _ (ap (namesMean _) (sym (c .before .enum-told .given .1)) ∙ c .before .before .before .read-names .ensures)
+returns c = c .read-either2 .ensures ∙ names-other (Heading.Positions ∷ Heading.CodedPositions ∷ []) (Heading.LastNumbers ∷ Heading.CodedLastNumbers ∷ []) _ (ap (namesMean _) (sym (c .before .enum-told .given .1)) ∙ c .before .before .before .read-either .ensures)
 
 returns-2 : tie.Need-returns-2
-returns-2 c = names-first _ _ _ (ap (namesMean _) (sym (c .before .heading .given .1)) ∙ c .before .before .before .read-names .ensures)
+returns-2 c = names-first (Heading.Positions ∷ Heading.CodedPositions ∷ []) (Heading.LastNumbers ∷ Heading.CodedLastNumbers ∷ []) _ (ap (namesMean _) (sym (c .before .heading .given .1)) ∙ c .before .before .before .read-either .ensures)
 
 pub read-columns-spec : {M : Type 1} → statement M
 read-columns-spec =
     tie.close
     (tie.spec
-    read-names-requires
+    read-either-requires
     enum-known-heading
     enum-told
-    read-names-requires-2
+    read-either-requires-2
     returns
     returns-2)

@@ -32,6 +32,24 @@ slice-aggregate-skip-line-3 c = search needs
 skip-line-requires-3 : tie.Need-skip-line-requires-3
 skip-line-requires-3 c κs = search needs
 
+enum-told-4 : tie.Need-enum-told-4
+enum-told-4 c = search needs
+
+slice-aggregate-skip-line-4 : tie.Need-slice-aggregate-skip-line-4
+slice-aggregate-skip-line-4 c = search needs
+
+skip-line-requires-4 : tie.Need-skip-line-requires-4
+skip-line-requires-4 c κs = search needs
+
+enum-told-5 : tie.Need-enum-told-5
+enum-told-5 c = search needs
+
+slice-aggregate-skip-line-5 : tie.Need-slice-aggregate-skip-line-5
+slice-aggregate-skip-line-5 c = search needs
+
+skip-line-requires-5 : tie.Need-skip-line-requires-5
+skip-line-requires-5 c κs = search needs
+
 returns : tie.Need-returns
 unfolding namesLine ascii
 returns c = rw (c .before .before .enum-told .given .1) (c .skip-line .ensures)
@@ -43,6 +61,14 @@ returns-2 c = rw (c .before .before .enum-told2 .given .1) (c .skip-line2 .ensur
 returns-3 : tie.Need-returns-3
 unfolding namesLine ascii
 returns-3 c = rw (c .before .before .enum-told3 .given .1) (c .skip-line3 .ensures)
+
+returns-4 : tie.Need-returns-4
+unfolding namesLine ascii
+returns-4 c = rw (c .before .before .enum-told4 .given .1) (c .skip-line4 .ensures)
+
+returns-5 : tie.Need-returns-5
+unfolding namesLine ascii
+returns-5 c = rw (c .before .before .enum-told5 .given .1) (c .skip-line5 .ensures)
 
 pub skip-heading-spec : {M : Type 1} → statement M
 skip-heading-spec =
@@ -57,6 +83,14 @@ skip-heading-spec =
     enum-told-3
     slice-aggregate-skip-line-3
     skip-line-requires-3
+    enum-told-4
+    slice-aggregate-skip-line-4
+    skip-line-requires-4
+    enum-told-5
+    slice-aggregate-skip-line-5
+    skip-line-requires-5
     returns
     returns-2
-    returns-3)
+    returns-3
+    returns-4
+    returns-5)

@@ -35,6 +35,26 @@ put-line-requires-3 : tie.Need-put-line-requires-3
 unfolding namesLine ascii
 put-line-requires-3 c κs = rw (c .before .before .enum-told3 .given .1) at (c .before .before .before .before .before .pre)
 
+enum-told-4 : tie.Need-enum-told-4
+enum-told-4 c = search needs
+
+slice-aggregate-put-line-4 : tie.Need-slice-aggregate-put-line-4
+slice-aggregate-put-line-4 c = search needs
+
+put-line-requires-4 : tie.Need-put-line-requires-4
+unfolding namesLine ascii
+put-line-requires-4 c κs = rw (c .before .before .enum-told4 .given .1) at (c .before .before .before .before .before .pre)
+
+enum-told-5 : tie.Need-enum-told-5
+enum-told-5 c = search needs
+
+slice-aggregate-put-line-5 : tie.Need-slice-aggregate-put-line-5
+slice-aggregate-put-line-5 c = search needs
+
+put-line-requires-5 : tie.Need-put-line-requires-5
+unfolding namesLine ascii
+put-line-requires-5 c κs = rw (c .before .before .enum-told5 .given .1) at (c .before .before .before .before .before .pre)
+
 same-length : tie.Need-same-length
 same-length c = search needs
 
@@ -56,6 +76,20 @@ returns-3 : tie.Need-returns-3
 unfolding namesLine ascii
 returns-3 c = rw (c .before .before .before .before .before .enum-told3 .given .1) (c .before .before .put-line3 .ensures)
 
+same-length-4 : tie.Need-same-length-4
+same-length-4 c = search needs
+
+returns-4 : tie.Need-returns-4
+unfolding namesLine ascii
+returns-4 c = rw (c .before .before .before .before .before .enum-told4 .given .1) (c .before .before .put-line4 .ensures)
+
+same-length-5 : tie.Need-same-length-5
+same-length-5 c = search needs
+
+returns-5 : tie.Need-returns-5
+unfolding namesLine ascii
+returns-5 c = rw (c .before .before .before .before .before .enum-told5 .given .1) (c .before .before .put-line5 .ensures)
+
 pub put-names-spec : {M : Type 1} → statement M
 put-names-spec =
     tie.close
@@ -69,9 +103,19 @@ put-names-spec =
     enum-told-3
     slice-aggregate-put-line-3
     put-line-requires-3
+    enum-told-4
+    slice-aggregate-put-line-4
+    put-line-requires-4
+    enum-told-5
+    slice-aggregate-put-line-5
+    put-line-requires-5
     same-length
     returns
     same-length-2
     returns-2
     same-length-3
-    returns-3)
+    returns-3
+    same-length-4
+    returns-4
+    same-length-5
+    returns-5)
