@@ -1,4 +1,4 @@
--- Document 01's case M in full, what is printed for refusals and for numbers with leading zeros, proved of the definitions by computation.
+-- Document 01's case M in full, what is printed for refusals for numbers with leading zeros and for last numbers, proved of the definitions by computation.
 use Prim.Native.String.{String}
 use mathlib.Core.Path.{_≡_, refl}
 use mathlib.Core.List.{List, [], _∷_, map}
@@ -10,6 +10,7 @@ use Rattle.series.specs.Lottery.{startingPlace, lottery, unstarted, lotteryAmou
 use Rattle.series.specs.RemainderDraw.{remainderPlace, firstRange, secondRange}
 use Rattle.series.specs.Refusals.{first, lengthRows, roomRows, standsIn, accountRefused, positionRows, exercisedRows, outside, undrawn, drawRows, thenDrawRows, listRows, rows, verdict}
 use Rattle.series.specs.Call.{assigned}
+use Rattle.forms.specs.Forms.{differences}
 use Rattle.text_rules.specs.Numbers.{digit, digits, spelled, amountFrom, amount, numeral, number, decimalIn, decimal}
 use Rattle.text_rules.specs.Fields.{Text, ends, field, past, fieldBy, endBefore, readFields, writeNumber}
 use Rattle.text_rules.specs.Rows.{numbers, readRow, readRows, writeRow, writeRows, rowsOf, column}
@@ -72,11 +73,20 @@ cases =
     prints "method,exercised,draw\nR,0,0\naccount,short\n1,5\n" "refused\n8\n" ∷
     -- case M from the same starting place by R
     prints "method,exercised,draw\nR,13,17\naccount,short\n1,5\n2,8\n3,2\n4,10\n5,11\n" "account,assigned\n1,0\n2,0\n3,0\n4,8\n5,5\naccount,first,last,first2,last2\n1,1,5,37,41\n2,6,13,42,49\n3,14,15,50,51\n4,16,25,52,61\n5,26,36,62,72\n" ∷
+    -- last numbers: case M by FINRA's table, also under R, a wheel list with codes; 20 for equal ones and for 0, 6 in the other form, 7
+    prints "method,exercised,draw\nL,13,4855\naccount,last\n1,5\n2,13\n3,15\n4,25\n5,36\n" "account,assigned\n1,0\n2,0\n3,0\n4,8\n5,5\n" ∷
+    prints "method,exercised,draw\nR,13,17\naccount,last\n1,5\n2,13\n3,15\n4,25\n5,36\n" "account,assigned\n1,0\n2,0\n3,0\n4,8\n5,5\naccount,first,last,first2,last2\n1,1,5,37,41\n2,6,13,42,49\n3,14,15,50,51\n4,16,25,52,61\n5,26,36,62,72\n" ∷
+    prints "method,exercised,draw\nW,13,0\ncode,account,last\n1,700,5\n3,500,13\n" "account,assigned\n700,5\n500,8\n" ∷
+    prints "method,exercised,draw\nL,13,4855\naccount,last\n1,5\n2,5\n" "refused\n20\n" ∷
+    prints "method,exercised,draw\nL,13,4855\naccount,last\n1,0\n2,5\n" "refused\n20\n" ∷
+    prints "method,exercised,draw\nL,13,4855\naccount,short\n1,0\n2,5\n" "refused\n6\n" ∷
+    prints "method,exercised,draw\nL,13,4855\naccount,last\n1,5\n2,10000001\n" "refused\n7\n" ∷
+    prints "method,exercised,draw\nL,13,4855\naccount,last\n" "refused\n3\n" ∷
     []
 
 -- the line `unfolding` names every definition that printing computes with
 printing : Text → Text
-unfolding bit listed total next run within marked before last amounts wheel startingPlace lottery unstarted lotteryAmounts remainderPlace firstRange secondRange first lengthRows roomRows standsIn accountRefused positionRows exercisedRows outside undrawn drawRows thenDrawRows listRows rows verdict assigned digit digits spelled amountFrom amount numeral number decimalIn decimal ends field past fieldBy endBefore readFields writeNumber numbers readRow readRows writeRow writeRows rowsOf column namesLine afterLine headingOr readNames letter methodAmong methodBy methodOf readTerms readHead readPositions readText refusedLines assignedLines rangeColumns rangeLines rangesBy seriesOrRefusal textOrRefusal linesFor printed ascii
+unfolding bit listed total next run within marked before last amounts wheel startingPlace lottery unstarted lotteryAmounts remainderPlace firstRange secondRange first lengthRows roomRows standsIn accountRefused positionRows exercisedRows outside undrawn drawRows thenDrawRows listRows rows verdict assigned digit digits spelled amountFrom amount numeral number decimalIn decimal ends field past fieldBy endBefore readFields writeNumber numbers readRow readRows writeRow writeRows rowsOf column namesLine afterLine headingOr readNames letter methodAmong methodBy methodOf readTerms readHead readPositions readText refusedLines assignedLines rangeColumns rangeLines rangesBy seriesOrRefusal textOrRefusal linesFor printed ascii differences
 printing s = printed s
 
 pub known : map (λ c. printed (c .input)) cases ≡ map (λ c. c .output) cases

@@ -1,6 +1,5 @@
 -- Claims and laws of what is printed for a text.
 pub mod Claims
-pub mod ReadingLaws
 pub mod PrintLaws
 pub mod RoomLaws
 pub mod FillLaws

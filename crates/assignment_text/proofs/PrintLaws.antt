@@ -30,6 +30,8 @@ use Rattle.series.proofs.ResultLaws.{never, value-is}
 use Rattle.series.proofs.SumLaws.{length-listed}
 use Rattle.series.proofs.AcceptedLaws.{accepted-facts, verdict-accepted}
 use Rattle.series.proofs.Demand3.{length-assigned}
+use Rattle.forms.specs.Forms.{Listing, seriesIn, numberIn, inForm}
+use Rattle.forms.specs.declared.Form.{Form}
 use Rattle.text_rules.specs.Fields.{Text}
 use Rattle.text_rules.specs.Rows.{writeRows, rowsOf}
 use Rattle.text_rules.specs.Text.{MOST_LINES, readText}
@@ -124,17 +126,17 @@ none-ranged Method.RemainderDraw k accounts shorts = absurd (⊎-elim (λ z. ome
 
 -- ---- the allocating call
 
-module _ (s : Series) where
+module _ (f : Form) (s : Series) where
   -- what the call hands back
   abbrev allocation : ℕ → Allocation
   allocation T = record { method = method s; total = T; further = further s }
 
-  refused-is : (v : Result ℕ) (n : ℕ) → _≡_ {A = Result Allocation} (refused n) (v >>= (λ T. value (allocation T))) → (v >>= (λ T. value s)) ≡ refused n
+  refused-is : (v : Result ℕ) (n : ℕ) → _≡_ {A = Result Allocation} (refused n) (v >>= (λ T. value (allocation T))) → (inForm f v >>= (λ T. value s)) ≡ refused (numberIn f n)
   refused-is (value T) n e = absurd (never n _ e)
-  refused-is (refused k) n e = let same : k ≡ n = cc in ap refused same
+  refused-is (refused k) n e = let same : k ≡ n = cc in ap (λ i. refused (numberIn f i)) same
 
   -- the call answered with a refusal
-  pub turned-away : (r : Response) (old new : Text) (n : ℕ) → refused n ≡ answer s (length (s .shorts)) → Responds r (refusedLines n) n old new → Responds r (linesFor (seriesOrRefusal s)) (status (seriesOrRefusal s)) old new
+  pub turned-away : (r : Response) (old new : Text) (n : ℕ) → refused n ≡ answer s (length (s .shorts)) → Responds r (refusedLines (numberIn f n)) (numberIn f n) old new → Responds r (linesFor (seriesOrRefusal f s)) (status (seriesOrRefusal f s)) old new
   unfolding answer seriesOrRefusal linesFor
   turned-away r old new n e p = rw (refused-is (verdict s (length (s .shorts))) n e) p
 
@@ -169,7 +171,7 @@ module _ (s : Series) where
         let none : drop (length (assigned s)) old ≡ [] = rw (length-assigned s, ← l) (drop-length old) in
         is ∙ rw (l, accepted, none) (append-nil (assigned s))
 
-    pub assigned-all : (r : Response) (old new : Text) → Responds r (assignedLines (s .accounts) (assigned s) ++ rangesBy (method s) (s .accounts) (s .shorts)) 0 old new → Responds r (linesFor (seriesOrRefusal s)) (status (seriesOrRefusal s)) old new
+    pub assigned-all : (r : Response) (old new : Text) → Responds r (assignedLines (s .accounts) (assigned s) ++ rangesBy (method s) (s .accounts) (s .shorts)) 0 old new → Responds r (linesFor (seriesOrRefusal f s)) (status (seriesOrRefusal f s)) old new
     unfolding seriesOrRefusal linesFor
     assigned-all r old new p = rw accepted p
 
@@ -179,6 +181,6 @@ pub text-refused : (s : Text) (r : Response) (old new : Text) (n : ℕ) → read
 unfolding printed textOrRefusal linesFor
 text-refused s r old new n e p = rw e p
 
-pub text-read : (s : Text) (r : Response) (old new : Text) (t : Series) → readText s ≡ value t → Responds r (linesFor (seriesOrRefusal t)) (status (seriesOrRefusal t)) old new → Responds r (printed s) (status (textOrRefusal s)) old new
+pub text-read : (s : Text) (r : Response) (old new : Text) (l : Listing) → readText s ≡ value l → Responds r (linesFor (seriesOrRefusal (l .form) (seriesIn l))) (status (seriesOrRefusal (l .form) (seriesIn l))) old new → Responds r (printed s) (status (textOrRefusal s)) old new
 unfolding printed textOrRefusal
-text-read s r old new t e p = rw e p
+text-read s r old new l e p = rw e p

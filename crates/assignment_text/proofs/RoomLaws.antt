@@ -20,6 +20,8 @@ use Rattle.series.proofs.AcceptedLaws.{accepted-facts, verdict-accepted}
 use Rattle.series.proofs.RangeLaws.{ranges-within}
 use Rattle.series.proofs.SumLaws.{getD-listed}
 use Rattle.series.proofs.ResultLaws.{stepped, value-is}
+use Rattle.forms.specs.Forms.{Listing, seriesIn, inForm}
+use Rattle.forms.proofs.FormLaws.{value-in}
 use Rattle.text_rules.specs.Fields.{Text}
 use Rattle.text_rules.specs.Rows.{writeRow, writeRows, rowOf, rowsOf}
 use Rattle.text_rules.specs.Text.{MOST_LINES, readText}
@@ -30,7 +32,7 @@ use Rattle.text_rules.proofs.LengthLaws.{length-row, lines-most, rows-room}
 use Rattle.assignment_text.specs.Printed.{refusedLines, assignedLines, rangeColumns, rangeLines, rangesBy, seriesOrRefusal, textOrRefusal, linesFor, printed, MOST_PRINTED}
 use Rattle.assignment_text.specs.Responses.{Printing, responseOf, printInto, Responds, Whole}
 use Rattle.assignment_text.specs.declared.Response.{Response}
-use Rattle.assignment_text.proofs.ReadingLaws.{few-positions}
+use Rattle.text_rules.proofs.ReadingLaws.{few-positions}
 
 -- so many bytes are at least one and at most what can be printed
 pub record Printable (n : ℕ) : Type 0 where
@@ -115,10 +117,12 @@ small-in-text : (s : Text) (t : Series) → textOrRefusal s ≡ value t → Smal
 unfolding textOrRefusal seriesOrRefusal
 small-in-text s t e =
     let read = stepped (readText s) _ t e in
-    let judged = stepped (verdict (read .from) (length (read .from .shorts))) _ t (read .on) in
-    let is : read .from ≡ t = value-is (judged .on) in
-    let facts = accepted-facts (read .from) _ (verdict-accepted (read .from) _ _ (judged .step)) in
-    subst Small is (record { same = facts .lengths; few = few-positions s (read .from) (read .step) .few; contracts = facts .total-most })
+    let l : Listing = read .from in
+    let v : Result ℕ = verdict (seriesIn l) (length (seriesIn l .shorts)) in
+    let judged = stepped (inForm (l .form) v) _ t (read .on) in
+    let is : seriesIn l ≡ t = value-is (judged .on) in
+    let facts = accepted-facts (seriesIn l) _ (verdict-accepted (seriesIn l) _ _ (value-in (l .form) v (judged .from) (judged .step))) in
+    subst Small is (record { same = facts .lengths; few = few-positions s l (read .step) .few; contracts = facts .total-most })
 
 pub printed-room : (s : Text) → Printable (length (printed s))
 unfolding printed

@@ -10,6 +10,8 @@ use Rattle.series.specs.RemainderDraw.{firstRange, secondRange}
 use Rattle.series.specs.Refusals.{verdict}
 use Rattle.series.specs.Call.{assigned}
 use Rattle.series.specs.declared.Method.{Method}
+use Rattle.forms.specs.Forms.{seriesIn, inForm}
+use Rattle.forms.specs.declared.Form.{Form}
 use Rattle.text_rules.specs.Fields.{Text}
 use Rattle.text_rules.specs.Rows.{writeRow, writeRows, rowsOf}
 use Rattle.text_rules.specs.Text.{readText}
@@ -40,17 +42,17 @@ rangeLines accounts shorts = ascii "account,first,last,first2,last2\n" ++ writeR
 unfoldable pub rangesBy : Method → List ℕ → List ℕ → Text
 rangesBy m accounts shorts = byMethod m [] [] [] (rangeLines accounts shorts)
 
--- a series, called with an output as long as its list; or the first refusal that it meets
-unfoldable pub seriesOrRefusal : Series → Result Series
-seriesOrRefusal t = do
-  T ← verdict t (length (t .shorts))
+-- a series that was listed in a form, called with an output as long as its list; or the first refusal that it meets
+unfoldable pub seriesOrRefusal : Form → Series → Result Series
+seriesOrRefusal f t = do
+  T ← inForm f (verdict t (length (t .shorts)))
   value t
 
 -- the series of a text, or the first refusal of reading it or of its call
 unfoldable pub textOrRefusal : Text → Result Series
 textOrRefusal s = do
-  t ← readText s
-  seriesOrRefusal t
+  l ← readText s
+  seriesOrRefusal (l .form) (seriesIn l)
 
 -- what is printed for either
 unfoldable pub linesFor : Result Series → Text

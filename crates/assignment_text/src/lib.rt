@@ -9,11 +9,13 @@ ghost use Rattle.series.specs.Answers.{numberOf};
 ghost use Rattle.series.specs.Results.{status};
 ghost use Rattle.series.specs.Places.{total as totalOf};
 ghost use Rattle.series.specs.Series.{MOST_CONTRACTS};
+ghost use Rattle.forms.specs.Forms.{shortsBy};
 ghost use Rattle.text_rules.specs.Text.{MOST_LINES};
 ghost use Rattle.text_writing.specs.Answers.{writingOf};
 ghost use Rattle.assignment_text.specs.Printed.{refusedLines, assignedLines, rangeLines, rangesBy, seriesOrRefusal, textOrRefusal, linesFor, printed};
 ghost use Rattle.assignment_text.specs.Responses.{responseOf, writtenHands, Responds};
 ghost use Rattle.assignment_text.specs.Lists.{Lists, RangeLists};
+use forms::Form;
 use series::Answer;
 use series::Method;
 use series::Refusal;
@@ -138,8 +140,9 @@ fn print_by(
     }
 }
 
-// Assigns a series of at most 1,024 positions, and prints the amounts or the refusal.
+// Assigns a series of at most 1,024 positions that was listed in a form, and prints the amounts or the refusal.
 fn assign(
+    form: Form,
     terms: Terms,
     codes: &[u32],
     accounts: &[u32],
@@ -148,14 +151,37 @@ fn assign(
     output: &mut [u8],
 ) -> Response
     requires { ⌜ Lists (now accounts) (now shorts) (now amounts) ⌝ }
-    ensures { λ r. ⌜ Responds r (linesFor (seriesOrRefusal (record { terms = terms; codes = now (codes .entry); accounts = now (accounts .entry); shorts = now (shorts .entry) }))) (status (seriesOrRefusal (record { terms = terms; codes = now (codes .entry); accounts = now (accounts .entry); shorts = now (shorts .entry) }))) (now (output .entry)) (now (output .exit)) ⌝ }
+    ensures { λ r. ⌜ Responds r (linesFor (seriesOrRefusal form (record { terms = terms; codes = now (codes .entry); accounts = now (accounts .entry); shorts = now (shorts .entry) }))) (status (seriesOrRefusal form (record { terms = terms; codes = now (codes .entry); accounts = now (accounts .entry); shorts = now (shorts .entry) }))) (now (output .entry)) (now (output .exit)) ⌝ }
 {
     let answer = allocation::allocate(terms, codes, accounts, shorts, amounts);
     let Answer::Refused(refusal) = answer else {
         let method = terms.method;
         return print_by(method, accounts, shorts, amounts, output);
     };
-    refuse(refusal, output)
+    refuse(forms::refusal_in(form, refusal), output)
+}
+
+// Assigns a listed series of at most 1,024 positions; the shorts of last numbers are made in a lent list.
+fn assign_listing(
+    form: Form,
+    terms: Terms,
+    codes: &[u32],
+    accounts: &[u32],
+    numbers: &[u32],
+    shorts: &mut [u32],
+    amounts: &mut [u32],
+    output: &mut [u8],
+) -> Response
+    requires { ⌜ Lists (now accounts) (now numbers) (now amounts) × (length (now shorts) ≡ length (now numbers)) ⌝ }
+    ensures { λ r. ⌜ Responds r (linesFor (seriesOrRefusal form (record { terms = terms; codes = now (codes .entry); accounts = now (accounts .entry); shorts = shortsBy form (now (numbers .entry)) }))) (status (seriesOrRefusal form (record { terms = terms; codes = now (codes .entry); accounts = now (accounts .entry); shorts = shortsBy form (now (numbers .entry)) }))) (now (output .entry)) (now (output .exit)) ⌝ }
+{
+    match form {
+        Form::Shorts => assign(form, terms, codes, accounts, numbers, amounts, output),
+        Form::LastNumbers => {
+            forms::fill_shorts(numbers, shorts);
+            assign(form, terms, codes, accounts, shorts, amounts, output)
+        }
+    }
 }
 
 // Prints what a text leads to: the amounts of its series, for R with the ranges, or a refusal. An output that is too short keeps its bytes, and bytes past what is printed are kept.
@@ -164,15 +190,22 @@ pub fn respond(text: &[u8], output: &mut [u8]) -> Response
 {
     let mut codes = [0u32; 1024];
     let mut accounts = [0u32; 1024];
+    let mut numbers = [0u32; 1024];
     let mut shorts = [0u32; 1024];
     let mut amounts = [0u32; 1024];
-    match series_text::read(text, &mut codes, &mut accounts, &mut shorts) {
+    match series_text::read(text, &mut codes, &mut accounts, &mut numbers) {
         Reading::Refused(refusal) => refuse(refusal, output),
-        Reading::Series { terms, positions } => assign(
+        Reading::Series {
+            form,
+            terms,
+            positions,
+        } => assign_listing(
+            form,
             terms,
             &codes[..positions],
             &accounts[..positions],
-            &shorts[..positions],
+            &numbers[..positions],
+            &mut shorts[..positions],
             &mut amounts[..positions],
             output,
         ),

@@ -8,12 +8,15 @@ use lib.Dec.{eqb, ltb, leb}
 use lib.ListN.{length, getD}
 use borrow.Author.Tests.{ltb-false, eqb-false, eqb-true, not-false, ne-eqb}
 use Rattle.series.specs.Results.{Result, refused, value, _>>=_}
-use Rattle.series.specs.Places.{total}
+use Rattle.series.specs.Sums.{listed}
+use Rattle.series.specs.Places.{total, before, last}
 use Rattle.series.specs.Series.{MOST_POSITIONS, MOST_CONTRACTS, orderedBy}
 use Rattle.series.specs.Refusals.{Row, first, NoneApplies, lengthRows, positionRows, listVerdict}
 use Rattle.series.specs.declared.Method.{Method}
 use Rattle.series.proofs.ResultLaws.{never, value-is, stepped}
 use Rattle.series.proofs.SumLaws.{total-term}
+use Rattle.series.proofs.ListLaws.{listed-elements}
+use Rattle.series.proofs.PlaceLaws.{last-total}
 use Rattle.series.proofs.RowLaws.{value-passed, value-same, passed-append}
 use Rattle.series.proofs.AcceptedLaws.{positive, or-false, positions-total}
 use Rattle.forms.specs.Forms.{Listing, differences, sums, shortsBy, seriesIn, numberIn, inForm, listVerdictIn, lastOf, otherForm, otherNumbers, inOther, changed}
@@ -106,7 +109,7 @@ module _ (m : Method) (codes accounts hs : List ℕ) (T : ℕ) (v : listVerdict 
       }
 
 -- the value of a call in a form is that of its series
-value-in : {A : Type 0} (f : Form) (r : Result A) (a : A) → inForm f r ≡ value a → r ≡ value a
+pub value-in : {A : Type 0} (f : Form) (r : Result A) (a : A) → inForm f r ≡ value a → r ≡ value a
 value-in f (refused n) a h = absurd (never (numberIn f n) a h)
 value-in f (value b) a h = h
 
@@ -155,14 +158,19 @@ other-other : (f : Form) → otherForm (otherForm f) ≡ f
 other-other Form.Shorts = refl
 other-other Form.LastNumbers = refl
 
-sum-at : (b : ℕ) (hs : List ℕ) (i : ℕ) → i < length hs → getD (sums b hs) i 0 ≤ b + total hs
-unfolding sums total
+sum-at : (b : ℕ) (hs : List ℕ) (i : ℕ) → i < length hs → getD (sums b hs) i 0 ≡ b + last hs i
+unfolding sums total last before
 sum-at b [] i l = absurd (omega arith)
 sum-at b (h ∷ hs) zero l = omega arith
 sum-at b (h ∷ hs) (suc i) l = let more = sum-at (b + h) hs i (omega arith) in omega arith
 
+-- the sums of shorts are the last contracts of the positions, as document 01 numbers them
+pub sums-are-lasts : (hs : List ℕ) → sums 0 hs ≡ listed (last hs) (length hs)
+sums-are-lasts hs =
+    listed-elements (last hs) (sums 0 hs) (λ i l. let at = sum-at 0 hs i (omega (arith, length-sums 0 hs)) in omega arith) ∙ ap (listed (last hs)) (length-sums 0 hs)
+
 others-small : (f : Form) (ns : List ℕ) → total (shortsBy f ns) ≤ MOST_CONTRACTS → (i : ℕ) → i < length (otherNumbers f ns) → getD (otherNumbers f ns) i 0 ≤ MOST_CONTRACTS
-others-small Form.Shorts ns small i l = let at = sum-at 0 ns i (omega (arith, length-sums 0 ns)) in omega arith
+others-small Form.Shorts ns small i l = let in-list : i < length ns = omega (arith, length-sums 0 ns) in omega (arith, sum-at 0 ns i in-list, last-total ns i in-list)
 others-small Form.LastNumbers ns small i l = let at = total-term (differences 0 ns) i l in omega arith
 
 back : (l : Listing) (T : ℕ) → listVerdict (l .terms .method) (l .codes) (l .accounts) (shortsBy (l .form) (l .numbers)) ≡ value T → changed (inOther l) ≡ value l

@@ -1,4 +1,5 @@
 -- Laws of the two forms of a list, and known listings.
+pub mod Claims
 pub mod FormLaws
 pub mod LastRows
 pub mod FillLaws

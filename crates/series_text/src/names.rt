@@ -67,9 +67,12 @@ fn read_either(text: &[u8], at: usize, first: Heading, second: Heading) -> Names
 pub fn read_columns(text: &[u8], at: usize) -> Names
     ensures { λ r. ⌜ namesMean (now (text .entry)) r ≡ readNames line3 (drop at (now (text .entry))) ⌝ }
 {
-    let Names::Line(heading, next) =
-        read_either(text, at, Heading::Positions, Heading::CodedPositions)
-    else {
+    let Names::Line(heading, next) = read_either(
+        text,
+        at,
+        Heading::Positions,
+        Heading::CodedPositions,
+    ) else {
         return read_either(text, at, Heading::LastNumbers, Heading::CodedLastNumbers);
     };
     Names::Line(heading, next)

@@ -18,7 +18,7 @@ use Rattle.text_rules.specs.Fields.{Text}
 use Rattle.text_rules.specs.Rows.{writeRow, writeRows, rowOf, rowsOf}
 use Rattle.text_rules.specs.Text.{MOST_BYTES, MOST_LINES, readText, writeHead, columnsBy, columns, textWith, writesCodes, writeText}
 use Rattle.text_rules.specs.Lists.{Columns}
-use Rattle.text_rules.specs.Calls.{writeInto, changeInto, MOST_CHANGED, lengthOf}
+use Rattle.text_rules.specs.Calls.{writeInto, changedInto, changeInto, MOST_CHANGED, lengthOf}
 use Rattle.text_rules.proofs.DecimalLaws.{digits-few, digits-within}
 use Rattle.text_rules.proofs.RowLaws.{Fits}
 use Rattle.text_rules.proofs.LengthLaws.{length-row, linesOf, lines-all, lines-most, head-room, lines-written}
@@ -58,8 +58,7 @@ changed-writable l o w h =
 line-short : (code account n : ℕ) → n < 10 ^ 8 → (length (writeRow (code ∷ account ∷ n ∷ [])) ≤ 31) × (length (writeRow (account ∷ n ∷ [])) ≤ 31)
 unfolding writeRow
 line-short code account n small =
-    let digits = digits-within 7 n small in
-    (
+    let digits = digits-within 7 n small in (
       omega (arith, length-row code (account ∷ n ∷ []), length-row account (n ∷ []), length-row n [], digits-few code, digits-few account),
       omega (arith, length-row account (n ∷ []), length-row n [], digits-few account),
     )
@@ -88,7 +87,7 @@ write-short o l fits room = rw (lines-written (writeHead (writesCodes o) (o .for
 
 -- what was read and whose list was judged is refused for a short output alone
 pub change-writes : (s : Text) (l o : Listing) → Change s l o → (room : ℕ) → changeInto s room ≡ refuse (ltb room (length (writeText o))) 4 (writeText o)
-unfolding changeInto
+unfolding changeInto changedInto
 change-writes s l o c room =
     let w = read-writable s l (c .reads) in
     rw (c .reads, c .changes) (write-short o (changed-writable l o w (c .changes) .lists) (omega (arith, changed-short l o w (c .changes))) room)
@@ -101,7 +100,7 @@ pub record Changes (s t : Text) : Type 0 where
   pub text : t ≡ writeText to
 
 pub change-made : (s t : Text) (room : ℕ) → changeInto s room ≡ value t → Changes s t
-unfolding changeInto
+unfolding changeInto changedInto
 change-made s t room h =
     let read = stepped (readText s) _ t h in
     let made = stepped (changed (read .from)) _ t (read .on) in

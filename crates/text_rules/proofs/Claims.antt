@@ -1,4 +1,4 @@
--- Document 01's case M and its refusals, and document 02's leading zeros and codes, proved of the definitions by computation. Texts at the limit of 32,768 bytes: `series_text_test/proofs/LargestTexts.antt`.
+-- Document 01's case M and its refusals, and document 02's leading zeros, codes, last numbers and change, proved of the definitions by computation. Texts at the limit of 32,768 bytes: `series_text_test/proofs/LargestTexts.antt`.
 use Prim.Native.Nat.{ℕ, zero, suc}
 use Prim.Native.String.{String}
 use mathlib.Core.Path.{_≡_, refl}
@@ -7,7 +7,9 @@ use mathlib.Core.List.{List, [], _∷_, _++_, map}
 use lib.ListN.{replicate}
 use Rattle.series.specs.Ascii.{ascii}
 use Rattle.series.specs.Results.{Result, refused, value, _>>=_, status}
-use Rattle.forms.specs.Forms.{Listing}
+use Rattle.series.specs.Places.{total}
+use Rattle.series.specs.Refusals.{first, lengthRows, standsIn, accountRefused, positionRows, listVerdict}
+use Rattle.forms.specs.Forms.{Listing, differences, sums, listVerdictIn, changed}
 use Rattle.forms.specs.declared.Form.{Form}
 use Rattle.series.specs.Sums.{listed}
 use Rattle.series.specs.declared.Method.{Method}
@@ -17,7 +19,7 @@ use Rattle.text_rules.specs.Rows.{numbers, readRow, readRows, writeRow, 
 use Rattle.text_rules.specs.Names.{line1, line3, namesLine, headingOf, afterLine, headingOr, readNames}
 use Rattle.text_rules.specs.Letters.{letter, methodAmong, methodBy, methodOf}
 use Rattle.text_rules.specs.Text.{readTerms, readHead, readPositions, readText, writeTerms, writeHead, textWith, sameNumbers, writesCodes, writeText}
-use Rattle.text_rules.specs.Calls.{readInto, evenly, lineCount, headAndLines, writeInto, lengthOf}
+use Rattle.text_rules.specs.Calls.{readInto, evenly, lineCount, headAndLines, writeInto, changedInto, changeInto, lengthOf}
 use Rattle.text_rules.specs.declared.Heading.{Heading}
 
 -- the line `unfolding` names every definition that reading computes with
@@ -358,3 +360,90 @@ M-writing = refl
 pub M-reading : (readInto M-text 4 5 5 ≡ refused 4) × (readInto M-text 5 4 5 ≡ refused 4) × (readInto M-text 5 5 4 ≡ refused 4) × (readInto M-text 5 5 5 ≡ value M)
 unfolding reading M M-text readInto
 M-reading = (refl, refl, refl, refl)
+
+-- ---- last numbers, and the change
+
+-- case M by its last numbers
+pub M-lasts : Listing
+M-lasts =
+    record {
+      form = Form.LastNumbers;
+      terms = record { method = Method.Lottery; exercised = record { 0 = 13 }; draw = 4855 };
+      codes = 1 ∷ 2 ∷ 3 ∷ 4 ∷ 5 ∷ [];
+      accounts = 1 ∷ 2 ∷ 3 ∷ 4 ∷ 5 ∷ [];
+      numbers = 5 ∷ 13 ∷ 15 ∷ 25 ∷ 36 ∷ [];
+    }
+
+pub lasts-text : Text
+lasts-text = ascii "method,exercised,draw\nL,13,4855\naccount,last\n1,5\n2,13\n3,15\n4,25\n5,36\n"
+
+pub lasts-read : readText lasts-text ≡ value M-lasts
+unfolding reading M-lasts lasts-text
+lasts-read = refl
+
+pub lasts-written : writeText M-lasts ≡ lasts-text
+unfolding writing M-lasts lasts-text
+lasts-written = refl
+
+-- no last number is judged in reading or writing: they fall, and are 0 and the largest number
+pub unjudged : readText (ascii "method,exercised,draw\nW,1,1\ncode,account,last\n1,9,4294967295\n2,8,0\n") ≡ value (record { form = Form.LastNumbers; terms = record { method = Method.Wheel; exercised = record { 0 = 1 }; draw = 1 }; codes = 1 ∷ 2 ∷ []; accounts = 9 ∷ 8 ∷ []; numbers = 4294967295 ∷ 0 ∷ [] })
+unfolding reading
+unjudged = refl
+
+-- the definitions that the change computes with
+changing : Text → ℕ → Result Text
+unfolding reading writing differences sums listVerdictIn listVerdict first lengthRows positionRows accountRefused standsIn total changed changedInto changeInto
+changing s room = changeInto s room
+
+-- a text, the length of the output, and the changed text or the refusal
+pub record ChangeCase : Type 0 where
+  pub text : String
+  pub room : ℕ
+  pub answer : Result String
+
+abbrev changes : String → String → ChangeCase
+changes s t = record { text = s; room = 32768; answer = value t }
+
+abbrev turns : String → ℕ → ChangeCase
+turns s n = record { text = s; room = 32768; answer = refused n }
+
+pub changeCases : List ChangeCase
+changeCases =
+    -- case M there and back, and with a column of codes that is left out
+    changes "method,exercised,draw\nL,13,4855\naccount,short\n1,5\n2,8\n3,2\n4,10\n5,11\n" "method,exercised,draw\nL,13,4855\naccount,last\n1,5\n2,13\n3,15\n4,25\n5,36\n" ∷
+    changes "method,exercised,draw\nL,13,4855\naccount,last\n1,5\n2,13\n3,15\n4,25\n5,36\n" "method,exercised,draw\nL,13,4855\naccount,short\n1,5\n2,8\n3,2\n4,10\n5,11\n" ∷
+    changes "method,exercised,draw\nL,13,4855\ncode,account,last\n01,1,5\n2,02,13\n" "method,exercised,draw\nL,13,4855\naccount,short\n1,5\n2,8\n" ∷
+    -- a wheel list with codes
+    changes "method,exercised,draw\nW,175,1\ncode,account,short\n10,500,60\n20,700,200\n30,510,95\n" "method,exercised,draw\nW,175,1\ncode,account,last\n10,500,60\n20,700,260\n30,510,355\n" ∷
+    -- S and the draw are not judged
+    changes "method,exercised,draw\nL,0,0\naccount,short\n1,5\n" "method,exercised,draw\nL,0,0\naccount,last\n1,5\n" ∷
+    changes "method,exercised,draw\nW,6,7\naccount,last\n1,5\n" "method,exercised,draw\nW,6,7\naccount,short\n1,5\n" ∷
+    -- the refusals of the text, of its line 2 and of a position line
+    turns "" 12 ∷
+    turns "method,exercised,draw\nX,1,1\naccount,last\n1,0\n" 14 ∷
+    turns "method,exercised,draw\nL,1,1\naccount,last\n1,0\n2,x\n" 13 ∷
+    -- those of the list: none, 5, 6 and 7
+    turns "method,exercised,draw\nL,1,1\naccount,last\n" 3 ∷
+    turns "method,exercised,draw\nL,1,1\naccount,short\n" 3 ∷
+    turns "method,exercised,draw\nL,1,1\naccount,last\n2,5\n1,4\n" 5 ∷
+    turns "method,exercised,draw\nL,1,1\naccount,short\n1,5\n2,0\n" 6 ∷
+    turns "method,exercised,draw\nL,1,1\naccount,short\n1,10000000\n2,1\n" 7 ∷
+    -- 20: two last numbers are equal, one falls, the first is 0
+    turns "method,exercised,draw\nL,1,1\naccount,last\n1,5\n2,5\n" 20 ∷
+    turns "method,exercised,draw\nL,1,1\naccount,last\n1,5\n2,4\n" 20 ∷
+    turns "method,exercised,draw\nL,1,1\naccount,last\n1,0\n2,4\n" 20 ∷
+    -- 10,000,000 contracts, and one more
+    changes "method,exercised,draw\nL,1,1\naccount,last\n1,5\n2,10000000\n" "method,exercised,draw\nL,1,1\naccount,short\n1,5\n2,9999995\n" ∷
+    turns "method,exercised,draw\nL,1,1\naccount,last\n1,5\n2,10000001\n" 7 ∷
+    -- under W with codes 5, then 19, then 20, and then 7
+    turns "method,exercised,draw\nW,1,1\ncode,account,last\n10,500,60\n10,500,60\n" 5 ∷
+    turns "method,exercised,draw\nW,1,1\ncode,account,last\n10,500,60\n20,500,60\n" 19 ∷
+    turns "method,exercised,draw\nW,1,1\ncode,account,last\n10,500,60\n20,600,60\n" 20 ∷
+    turns "method,exercised,draw\nW,1,1\ncode,account,last\n10,500,60\n20,600,10000001\n" 7 ∷
+    -- last of all 4, for an output that is one byte too short
+    record { text = "method,exercised,draw\nL,1,1\naccount,short\n1,5\n"; room = 44; answer = refused 4 } ∷
+    record { text = "method,exercised,draw\nL,1,1\naccount,short\n1,5\n"; room = 45; answer = value "method,exercised,draw\nL,1,1\naccount,last\n1,5\n" } ∷ []
+
+pub changes-judged : map (λ c. changeInto (ascii (c .text)) (c .room)) changeCases ≡ map (λ c. c .answer >>= λ t. value (ascii t)) changeCases
+unfolding changing changeCases
+changes-judged = refl

@@ -11,4 +11,5 @@ pub mod SpellingLaws
 pub mod DecimalLaws
 pub mod CopyLaws
 pub mod ReadLaws
+pub mod ReadingLaws
 pub mod LengthLaws

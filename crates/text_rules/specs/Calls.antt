@@ -60,12 +60,17 @@ writeInto t room = do
   s ← refuse (ltb MOST_BYTES (length s)) 11 s
   refuse (ltb room (length s)) 4 s
 
--- the change of a text to an output of length room: it is read, its list judged by its method (S and the draw are not), and written in the other form
+-- the change of a listing, written to an output of length room: its list is judged by its method (S and the draw are not), and it is written in the other form
+unfoldable pub changedInto : Listing → ℕ → Result Text
+changedInto l room = do
+  o ← changed l
+  writeInto o room
+
+-- the change of a text
 unfoldable pub changeInto : Text → ℕ → Result Text
 changeInto s room = do
   l ← readText s
-  o ← changed l
-  writeInto o room
+  changedInto l room
 
 -- no changed text is longer: lines 1 to 3, and 1,024 lines of at most 31 bytes
 abbrev pub MOST_CHANGED : ℕ

@@ -1,0 +1,92 @@
+// The change: from a text of either form to the text of the other.
+use forms::Form;
+use list_judging::Judged;
+use series::Terms;
+use series_text::Reading;
+use text_writing::Writing;
+ghost use mathlib.Core.Path.{_≡_};
+ghost use Prim.Native.Nat.{_≤_};
+ghost use lib.ListN.{length};
+ghost use Rattle.series.specs.Results.{after};
+ghost use Rattle.series.specs.Outputs.{onto};
+ghost use Rattle.series.specs.Places.{total as totalOf};
+ghost use Rattle.series.specs.Series.{MOST_CONTRACTS};
+ghost use Rattle.forms.specs.Forms.{sums, shortsBy, otherNumbers};
+ghost use Rattle.text_rules.specs.Calls.{changedInto, changeInto, lengthOf};
+ghost use Rattle.text_writing.specs.Answers.{writingOf};
+
+// Fills in the last numbers of shorts: their sums, one position after the other.
+fn fill_lasts(shorts: &[u32], lasts: &mut [u32])
+    requires { ⌜ (length (now lasts) ≡ length (now shorts)) × (totalOf (now shorts) ≤ MOST_CONTRACTS) ⌝ }
+    ensures { λ _. ⌜ now (lasts .exit) ≡ sums 0 (now (shorts .entry)) ⌝ }
+{
+    let mut sum = 0;
+    let mut i = 0;
+    while i < shorts.len() {
+        sum += shorts[i];
+        lasts[i] = sum;
+        i += 1;
+    }
+}
+
+// Fills in the numbers of a judged list in the other form.
+fn fill_other(form: Form, numbers: &[u32], others: &mut [u32])
+    requires { ⌜ (length (now others) ≡ length (now numbers)) × (totalOf (shortsBy form (now numbers)) ≤ MOST_CONTRACTS) ⌝ }
+    ensures { λ _. ⌜ now (others .exit) ≡ otherNumbers form (now (numbers .entry)) ⌝ }
+{
+    match form {
+        Form::Shorts => fill_lasts(numbers, others),
+        Form::LastNumbers => forms::fill_shorts(numbers, others),
+    }
+}
+
+// Judges a list, and writes its text in the other form; the numbers are made in a lent list.
+fn change_list(
+    form: Form,
+    terms: Terms,
+    codes: &[u32],
+    accounts: &[u32],
+    numbers: &[u32],
+    others: &mut [u32],
+    output: &mut [u8],
+) -> Writing
+    requires { ⌜ length (now others) ≡ length (now numbers) ⌝ }
+    ensures { λ r. ⌜ writingOf r ≡ lengthOf (changedInto (record { form = form; terms = terms; codes = now (codes .entry); accounts = now (accounts .entry); numbers = now (numbers .entry) }) (length (now (output .entry)))) ⌝ }
+    ensures { λ _. ⌜ now (output .exit) ≡ after (changedInto (record { form = form; terms = terms; codes = now (codes .entry); accounts = now (accounts .entry); numbers = now (numbers .entry) }) (length (now (output .entry)))) (λ s. onto s (now (output .entry))) (now (output .entry)) ⌝ }
+{
+    let method = terms.method;
+    match listing::judge_list(form, method, codes, accounts, numbers) {
+        Judged::Refused(refusal) => Writing::Refused(refusal),
+        Judged::Accepted(_) => {
+            fill_other(form, numbers, others);
+            text_writing::write(forms::other(form), terms, codes, accounts, others, output)
+        }
+    }
+}
+
+// Changes a text from its form to the other. A refusal writes nothing, and bytes past the changed text are kept.
+pub fn change(text: &[u8], output: &mut [u8]) -> Writing
+    ensures { λ r. ⌜ writingOf r ≡ lengthOf (changeInto (now (text .entry)) (length (now (output .entry)))) ⌝ }
+    ensures { λ _. ⌜ now (output .exit) ≡ after (changeInto (now (text .entry)) (length (now (output .entry)))) (λ s. onto s (now (output .entry))) (now (output .entry)) ⌝ }
+{
+    let mut codes = [0u32; 1024];
+    let mut accounts = [0u32; 1024];
+    let mut numbers = [0u32; 1024];
+    let mut others = [0u32; 1024];
+    match series_text::read(text, &mut codes, &mut accounts, &mut numbers) {
+        Reading::Refused(refusal) => Writing::Refused(refusal),
+        Reading::Series {
+            form,
+            terms,
+            positions,
+        } => change_list(
+            form,
+            terms,
+            &codes[..positions],
+            &accounts[..positions],
+            &numbers[..positions],
+            &mut others[..positions],
+            output,
+        ),
+    }
+}
