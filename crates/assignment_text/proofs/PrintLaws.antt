@@ -24,13 +24,14 @@ use Rattle.series.specs.Call.{assigned, further, answer, output}
 use Rattle.series.specs.declared.Refusal.{Refusal}
 use Rattle.series.specs.declared.Answer.{Answer}
 use Rattle.series.specs.declared.Method.{Method}
+use Rattle.series.specs.declared.Terms.{Terms}
 use Rattle.series.proofs.Answer.{the-type}
 use Rattle.series.proofs.Method.{the-type as the-method}
 use Rattle.series.proofs.ResultLaws.{never, value-is}
 use Rattle.series.proofs.SumLaws.{length-listed}
 use Rattle.series.proofs.AcceptedLaws.{accepted-facts, verdict-accepted}
 use Rattle.series.proofs.Demand3.{length-assigned}
-use Rattle.forms.specs.Forms.{Listing, seriesIn, numberIn, inForm}
+use Rattle.forms.specs.Forms.{Listing, differences, shortsBy, seriesIn, numberIn, inForm}
 use Rattle.forms.specs.declared.Form.{Form}
 use Rattle.text_rules.specs.Fields.{Text}
 use Rattle.text_rules.specs.Rows.{writeRows, rowsOf}
@@ -136,9 +137,9 @@ module _ (f : Form) (s : Series) where
   refused-is (refused k) n e = let same : k ≡ n = cc in ap (λ i. refused (numberIn f i)) same
 
   -- the call answered with a refusal
-  pub turned-away : (r : Response) (old new : Text) (n : ℕ) → refused n ≡ answer s (length (s .shorts)) → Responds r (refusedLines (numberIn f n)) (numberIn f n) old new → Responds r (linesFor (seriesOrRefusal f s)) (status (seriesOrRefusal f s)) old new
+  pub turned-away : (r : Response) (old new : Text) (n v : ℕ) → refused n ≡ answer s (length (s .shorts)) → v ≡ numberIn f n → Responds r (refusedLines v) v old new → Responds r (linesFor (seriesOrRefusal f s)) (status (seriesOrRefusal f s)) old new
   unfolding answer seriesOrRefusal linesFor
-  turned-away r old new n e p = rw (refused-is (verdict s (length (s .shorts))) n e) p
+  turned-away r old new n v e is p = rw (refused-is (verdict s (length (s .shorts))) n e, ← is) p
 
   is-value : (v : Result ℕ) (x : Allocation) → value x ≡ (v >>= (λ T. value (allocation T))) → v ≡ value (x .total)
   is-value (value T) x e = let is : allocation T ≡ x = value-is (sym e) in ap value (ap (λ (y : Allocation). y .total) is)
@@ -174,6 +175,19 @@ module _ (f : Form) (s : Series) where
     pub assigned-all : (r : Response) (old new : Text) → Responds r (assignedLines (s .accounts) (assigned s) ++ rangesBy (method s) (s .accounts) (s .shorts)) 0 old new → Responds r (linesFor (seriesOrRefusal f s)) (status (seriesOrRefusal f s)) old new
     unfolding seriesOrRefusal linesFor
     assigned-all r old new p = rw accepted p
+
+-- the same for equal shorts
+pub shorts-as : (f : Form) (t : Terms) (codes accounts hs hs′ : List ℕ) (r : Response) (old new : Text) → hs ≡ hs′
+    → Responds r (linesFor (seriesOrRefusal f (record { terms = t; codes = codes; accounts = accounts; shorts = hs }))) (status (seriesOrRefusal f (record { terms = t; codes = codes; accounts = accounts; shorts = hs }))) old new
+    → Responds r (linesFor (seriesOrRefusal f (record { terms = t; codes = codes; accounts = accounts; shorts = hs′ }))) (status (seriesOrRefusal f (record { terms = t; codes = codes; accounts = accounts; shorts = hs′ }))) old new
+shorts-as f t codes accounts hs hs′ r old new e p = rw (← e) p
+
+-- the shorts of a list in each form
+pub own-shorts : (f : Form) (ns : List ℕ) → f ≡ Form.Shorts → ns ≡ shortsBy f ns
+own-shorts f ns e = rw e refl
+
+pub lasts-shorts : (f : Form) (ns : List ℕ) → f ≡ Form.LastNumbers → differences 0 ns ≡ shortsBy f ns
+lasts-shorts f ns e = rw e refl
 
 -- ---- the whole call
 

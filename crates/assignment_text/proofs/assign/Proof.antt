@@ -2,7 +2,7 @@
 use mathlib.Core.Path.{_≡_, sym, ap, _∙_}
 use lib.ListN.{length}
 use Rattle.series.specs.Series.{Series}
-use Rattle.series.specs.Answers.{answerOf}
+use Rattle.series.specs.Answers.{numberOf, answerOf}
 use Rattle.series.specs.Call.{answer}
 use Rattle.assignment_text.proofs.PrintLaws.{turned-away, few-contracts, amounts-are, assigned-all}
 use borrow.Author.Needs.{needs}
@@ -28,7 +28,7 @@ print-by-requires : tie.Need-print-by-requires
 unfolding series
 print-by-requires c κs = let s = c .before .before .before .before .before .before .before .before .before .before .before .before in
     let call = c .before .before .before .before .before in
-    (record { same = s .pre .same; beside = call .allocate .kept .1 .1 .1 .1 .0 ∙ s .pre .beside; few = s .pre .few }, few-contracts (series call) (call .allocate .result) (c .before .before .match .keys2) (told call))
+    (record { same = s .pre .same; beside = call .allocate .kept .1 .1 .1 .1 .0 ∙ s .pre .beside; few = s .pre .few }, few-contracts (s .args .form) (series call) (call .allocate .result) (c .before .before .match .keys2) (told call))
 
 same-length : tie.Need-same-length
 same-length c = search needs
@@ -40,8 +40,11 @@ returns : tie.Need-returns
 unfolding series
 returns c = let s = c .before .before .before .before .before .before .before .before .before .before .before .before .before .before .before in
     let call = c .before .before .before .before .before .before .before .before in
-    let is = amounts-are (series call) (call .allocate .result) (c .before .before .before .before .before .match .keys2) (told call) (s .args .amounts .now) _ (s .pre .beside) (call .allocate .ensures .written) in
-    assigned-all (series call) (call .allocate .result) (c .before .before .before .before .before .match .keys2) (told call) (c .before .before .print-by .result) (s .args .output .now) _ (rw is at (c .before .before .print-by .ensures))
+    let is = amounts-are (s .args .form) (series call) (call .allocate .result) (c .before .before .before .before .before .match .keys2) (told call) (s .args .amounts .now) _ (s .pre .beside) (call .allocate .ensures .written) in
+    assigned-all (s .args .form) (series call) (call .allocate .result) (c .before .before .before .before .before .match .keys2) (told call) (c .before .before .print-by .result) (s .args .output .now) _ (rw is at (c .before .before .print-by .ensures))
+
+refusal-in-requires : tie.Need-refusal-in-requires
+refusal-in-requires c κs = search needs
 
 refuse-requires : tie.Need-refuse-requires
 refuse-requires c κs = search needs
@@ -54,8 +57,11 @@ same-length-4 c = search needs
 
 returns-2 : tie.Need-returns-2
 unfolding series
-returns-2 c = let call = c .before .before .before .before .before .before .before .before .before in
-    turned-away (series call) (c .before .before .refuse .result) (c .before .before .before .before .before .before .before .before .before .before .before .before .before .before .before .before .args .output .now) _ _ (ap answerOf (sym (c .before .before .before .before .before .answer .given .1)) ∙ told call) (c .before .before .refuse .ensures)
+returns-2 c = let call = c .before .before .before .before .before .before .before .before .before .before in
+    let a = call .before .before .before .before .before .before .before .args in
+    let n = numberOf (c .before .before .before .before .before .before .answer .given .0 .0) in
+    turned-away (a .form) (series call) (c .before .before .refuse .result) (a .output .now) _ n _ (ap answerOf (sym (c .before .before .before .before .before .before .answer .given .1)) ∙ told call)
+    (c .before .before .before .before .refusal-in .ensures) (c .before .before .refuse .ensures)
 
 pub assign-spec : {M : Type 1} → statement M
 assign-spec =
@@ -67,6 +73,7 @@ assign-spec =
     same-length
     same-length-2
     returns
+    refusal-in-requires
     refuse-requires
     same-length-3
     same-length-4
