@@ -17,7 +17,7 @@ pub record Printing : Type 0 where
 
 -- what each answer hands back
 abbrev pub responseOf : Response → Printing
-responseOf (Response.Assigned n) = record { written = n; refusal = 0 }
+responseOf (Response.Printed n) = record { written = n; refusal = 0 }
 responseOf (Response.Refused n r) = record { written = n; refusal = numberOf r }
 
 -- what is handed back for an allocation that was written, by its length, or refused: then it did not fit

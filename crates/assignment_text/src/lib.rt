@@ -32,14 +32,14 @@ const RANGE_NAMES: [u8; 32] = *b"account,first,last,first2,last2\n";
 // The line before the number of a refusal.
 const REFUSED_LINE: [u8; 8] = *b"refused\n";
 
-// What the call answers: the bytes printed for an allocation; or those printed for a refusal, with the refusal, which is 4 with no bytes where the output is too short.
+// What a call that prints answers: how many bytes; or how many for a refusal, with the refusal, which is 4 with no bytes where the output is too short.
 pub enum Response {
-    Assigned(usize),
+    Printed(usize),
     Refused(usize, Refusal),
 }
 
-// Prints a refusal.
-fn refuse(refusal: Refusal, output: &mut [u8]) -> Response
+// Prints a refusal: the line `refused` and a line with its number.
+pub fn refuse(refusal: Refusal, output: &mut [u8]) -> Response
     ensures { λ r. ⌜ Responds r (refusedLines (numberOf refusal)) (numberOf refusal) (now (output .entry)) (now (output .exit)) ⌝ }
 {
     match text_writing::write_note(&REFUSED_LINE, series::number(refusal), output) {
@@ -53,7 +53,7 @@ fn answer_written(writing: Writing) -> Response
     ensures { λ r. ⌜ responseOf r ≡ writtenHands (writingOf writing) ⌝ }
 {
     match writing {
-        Writing::Written(n) => Response::Assigned(n),
+        Writing::Written(n) => Response::Printed(n),
         Writing::Refused(_) => Response::Refused(0, Refusal::OutputTooShort),
     }
 }

@@ -1,5 +1,5 @@
 -- What the calls under the exports answered, as what the exports hand back.
-use Prim.Native.Nat.{ℕ}
+use Prim.Native.Nat.{ℕ, zero, suc}
 use mathlib.Core.Path.{_≡_, refl, sym, ap, _∙_}
 use mathlib.Core.Bool.{Bool, true, false, cond}
 use mathlib.Core.List.{List}
@@ -8,11 +8,12 @@ use lib.Dec.{ltb}
 use lib.ListN.{length}
 use Rattle.series.specs.Results.{Result, refused, value, refuse, after, status}
 use Rattle.series.specs.Outputs.{onto, ontoRoom}
-use Rattle.series.specs.Series.{Series, method, exercised, draw}
 use Rattle.series.specs.Answers.{Allocation, handedBack}
 use Rattle.series.specs.Call.{answer, output}
 use Rattle.series.specs.declared.Method.{Method}
 use Rattle.series.specs.declared.Terms.{Terms}
+use Rattle.forms.specs.Forms.{Listing, seriesIn, inForm, ListingCall}
+use Rattle.forms.specs.declared.Form.{Form}
 use Rattle.text_rules.specs.Fields.{Text}
 use Rattle.text_rules.specs.Letters.{letter, methodBy}
 use Rattle.text_rules.specs.Calls.{Handed, handed, writeInto, lengthOf}
@@ -20,17 +21,17 @@ use Rattle.assignment_text.specs.Printed.{printed}
 use Rattle.assignment_text.specs.Responses.{Printing, responseOf, printInto, Responds}
 use Rattle.assignment_text.specs.declared.Response.{Response}
 use Rattle.assignment_text.proofs.RoomLaws.{printed-room}
-use Rattle.dilbreth.specs.Exports.{seriesBy, called, Handing, handedNumbers, Allocates, Reads, writtenBy, printedInto, Writes}
+use Rattle.dilbreth.specs.Exports.{formBy, formNumber, listingBy, called, Handing, handedNumbers, Allocates, Reads, writtenBy, printedInto, Writes}
 
 -- the values of a series with a known method
 abbrev termsOf : Method → ℕ → ℕ → Terms
 termsOf m S draw = record { method = m; exercised = record { 0 = S }; draw = draw }
 
 -- a call that hands back the length of what it writes
-by-length : (s : Result Text) (w : Result ℕ) (old new : Text) (n : ℕ) → w ≡ lengthOf s → new ≡ after s (λ t. onto t old) old → Writes s (status w) old new (record { old = n; new = after w (λ k. k) n })
+pub by-length : (s : Result Text) (w : Result ℕ) (r : ℕ) (old new : Text) (n n′ : ℕ) → w ≡ lengthOf s → new ≡ after s (λ t. onto t old) old → r ≡ status w → n′ ≡ after w (λ k. k) n → Writes s r old new (record { old = n; new = n′ })
 unfolding lengthOf
-by-length (refused k) w old new n ew en = rw ew (record { answers = refl; writes = en; hands-length = refl })
-by-length (value t) w old new n ew en = rw ew (record { answers = refl; writes = en; hands-length = refl })
+by-length (refused k) w r old new n n′ ew en er ek = record { answers = er ∙ ap status ew; writes = en; hands-length = ek ∙ ap (λ x. after x (λ i. i) n) ew }
+by-length (value t) w r old new n n′ ew en er ek = record { answers = er ∙ ap status ew; writes = en; hands-length = ek ∙ ap (λ x. after x (λ i. i) n) ew }
 
 -- the numbers of an answer
 status-is : (a : Result Allocation) → status (handedNumbers a) ≡ status a
@@ -48,40 +49,47 @@ unfolding handedNumbers
 further-is (refused n) f = refl
 further-is (value x) f = refl
 
-module _ (l S draw : ℕ) (codes accounts shorts : List ℕ) where
-  by-unknown : refused 14 ≡ methodBy l → seriesBy l S draw codes accounts shorts ≡ refused 14
-  unfolding seriesBy
+module _ (l f S draw : ℕ) (codes accounts numbers : List ℕ) where
+  by-unknown : refused 14 ≡ methodBy l → listingBy l f S draw codes accounts numbers ≡ refused 14
+  unfolding listingBy
   by-unknown e = rw (← e)
 
-  by-known : (m : Method) → value m ≡ methodBy l → seriesBy l S draw codes accounts shorts ≡ value (record { terms = termsOf m S draw; codes = codes; accounts = accounts; shorts = shorts })
-  unfolding seriesBy
+  by-known : (m : Method) → value m ≡ methodBy l → listingBy l f S draw codes accounts numbers ≡ value (record { form = formBy f; terms = termsOf m S draw; codes = codes; accounts = accounts; numbers = numbers })
+  unfolding listingBy
   by-known m e = rw (← e)
 
-  pub allocate-unknown : refused 14 ≡ methodBy l → (old : List ℕ) (T f : ℕ) → Allocates (seriesBy l S draw codes accounts shorts) 14 old old (record { old = T; new = T }) (record { old = f; new = f })
+  pub allocate-unknown : refused 14 ≡ methodBy l → (old : List ℕ) (T k : ℕ) → Allocates (listingBy l f S draw codes accounts numbers) 14 old old (record { old = T; new = T }) (record { old = k; new = k })
   unfolding called
-  allocate-unknown e old T f = rw (by-unknown e) (record { answers = refl; writes = refl; hands-total = refl; hands-further = refl })
+  allocate-unknown e old T k = rw (by-unknown e) (record { answers = refl; writes = refl; hands-total = refl; hands-further = refl })
 
-  pub allocate-known : (m : Method) → value m ≡ methodBy l → (t : Terms) → t ≡ termsOf m S draw → (a : Result Allocation) (h : Result Handing) (old new : List ℕ) (T f : ℕ) → h ≡ handedNumbers a → a ≡ answer (record { terms = t; codes = codes; accounts = accounts; shorts = shorts }) (length old) → new ≡ output (record { terms = t; codes = codes; accounts = accounts; shorts = shorts }) old
-      → Allocates (seriesBy l S draw codes accounts shorts) (status h) old new (record { old = T; new = after h (λ x. x .total) T }) (record { old = f; new = after h (λ x. x .further) f })
+  pub allocate-known : (m : Method) → value m ≡ methodBy l → (t : Terms) → t ≡ termsOf m S draw → (g : Form) → g ≡ formBy f → (a : Result Allocation) (h : Result Handing) (old new : List ℕ) (T k : ℕ) → h ≡ handedNumbers a → ListingCall (record { form = g; terms = t; codes = codes; accounts = accounts; numbers = numbers }) a old new
+      → Allocates (listingBy l f S draw codes accounts numbers) (status h) old new (record { old = T; new = after h (λ x. x .total) T }) (record { old = k; new = after h (λ x. x .further) k })
   unfolding called
-  allocate-known m e t et a h old new T f eh ea en =
-      rw (by-known m e, ← et, eh) (record { answers = status-is a ∙ ap status ea; writes = en; hands-total = total-is a T ∙ ap (λ r. after r (λ x. x .total) T) ea; hands-further = further-is a f ∙ ap (λ r. after r (λ x. handedBack (x .further)) f) ea })
+  allocate-known m e t et g eg a h old new T k eh call =
+      let ea = call .answered in
+      rw (by-known m e, ← et, ← eg, eh)
+      (record {
+        answers = status-is a ∙ ap status ea;
+        writes = call .written;
+        hands-total = total-is a T ∙ ap (λ r. after r (λ x. x .total) T) ea;
+        hands-further = further-is a k ∙ ap (λ r. after r (λ x. handedBack (x .further)) k) ea;
+      })
 
-  pub write-unknown : refused 14 ≡ methodBy l → (old : Text) (n : ℕ) → Writes (writtenBy (seriesBy l S draw codes accounts shorts) (length old)) 14 old old (record { old = n; new = n })
+  pub write-unknown : refused 14 ≡ methodBy l → (old : Text) (n : ℕ) → Writes (writtenBy (listingBy l f S draw codes accounts numbers) (length old)) 14 old old (record { old = n; new = n })
   unfolding writtenBy
   write-unknown e old n = rw (by-unknown e) (record { answers = refl; writes = refl; hands-length = refl })
 
-  pub write-known : (m : Method) → value m ≡ methodBy l → (t : Terms) → t ≡ termsOf m S draw → (w : Result ℕ) (old new : Text) (n : ℕ) → w ≡ lengthOf (writeInto (record { terms = t; codes = codes; accounts = accounts; shorts = shorts }) (length old)) → new ≡ after (writeInto (record { terms = t; codes = codes; accounts = accounts; shorts = shorts }) (length old)) (λ s. onto s old) old
-      → Writes (writtenBy (seriesBy l S draw codes accounts shorts) (length old)) (status w) old new (record { old = n; new = after w (λ k. k) n })
+  pub write-known : (m : Method) → value m ≡ methodBy l → (t : Terms) → t ≡ termsOf m S draw → (g : Form) → g ≡ formBy f → (w : Result ℕ) (r : ℕ) (old new : Text) (n n′ : ℕ) → w ≡ lengthOf (writeInto (record { form = g; terms = t; codes = codes; accounts = accounts; numbers = numbers }) (length old)) → new ≡ after (writeInto (record { form = g; terms = t; codes = codes; accounts = accounts; numbers = numbers }) (length old)) (λ s. onto s old) old → r ≡ status w → n′ ≡ after w (λ k. k) n
+      → Writes (writtenBy (listingBy l f S draw codes accounts numbers) (length old)) r old new (record { old = n; new = n′ })
   unfolding writtenBy
-  write-known m e t et w old new n ew en = rw (by-known m e, ← et) (by-length (writeInto (record { terms = t; codes = codes; accounts = accounts; shorts = shorts }) (length old)) w old new n ew en)
+  write-known m e t et g eg w r old new n n′ ew en er ek = rw (by-known m e, ← et, ← eg) (by-length (writeInto (record { form = g; terms = t; codes = codes; accounts = accounts; numbers = numbers }) (length old)) w r old new n n′ ew en er ek)
 
 -- what reading hands back
-pub read-hands : (s : Result Series) (h : Result Handed) (l S d p : ℕ) → h ≡ handed s
-    → Reads s (status h) (record { old = l; new = after h (λ x. letter (x .terms .method)) l }) (record { old = S; new = after h (λ x. x .terms .exercised .0) S }) (record { old = d; new = after h (λ x. x .terms .draw) d }) (record { old = p; new = after h (λ x. x .positions) p })
+pub read-hands : (s : Result Listing) (h : Result Handed) (l S d f p : ℕ) → h ≡ handed s
+    → Reads s (status h) (record { old = l; new = after h (λ x. letter (x .terms .method)) l }) (record { old = S; new = after h (λ x. x .terms .exercised .0) S }) (record { old = d; new = after h (λ x. x .terms .draw) d }) (record { old = f; new = after h (λ x. formNumber (x .form)) f }) (record { old = p; new = after h (λ x. x .positions) p })
 unfolding handed
-read-hands (refused n) h l S d p e = rw e (record { answers = refl; hands-letter = refl; hands-exercised = refl; hands-draw = refl; hands-positions = refl })
-read-hands (value t) h l S d p e = rw e (record { answers = refl; hands-letter = refl; hands-exercised = refl; hands-draw = refl; hands-positions = refl })
+read-hands (refused n) h l S d f p e = rw e (record { answers = refl; hands-letter = refl; hands-exercised = refl; hands-draw = refl; hands-form = refl; hands-positions = refl })
+read-hands (value t) h l S d f p e = rw e (record { answers = refl; hands-letter = refl; hands-exercised = refl; hands-draw = refl; hands-form = refl; hands-positions = refl })
 
 -- ---- printing
 
@@ -108,3 +116,14 @@ module _ (s : Text) (v : ℕ) (old new : Text) (k : ℕ) where
   pub respond-none : (r : Response) (n q : ℕ) → responseOf r ≡ record { written = n; refusal = q } → n ≡ 0 → Responds r (printed s) v old new → Writes (printedInto s (length old)) 4 old new (record { old = k; new = k })
   unfolding printedInto printInto ontoRoom printing
   respond-none r n q is z p = none (ltb (length old) (length (printed s))) q (rw z at (sym is ∙ p .hands)) (p .output)
+
+-- ---- the form
+
+pub shorts-by : (n : ℕ) → n ≡ 0 → Form.Shorts ≡ formBy n
+unfolding formBy
+shorts-by n e = rw e
+
+pub lasts-by : (n : ℕ) → (n ≡ 0 → ⊥) → Form.LastNumbers ≡ formBy n
+unfolding formBy
+lasts-by zero d = absurd (d refl)
+lasts-by (suc n) d = refl

@@ -1,31 +1,42 @@
 -- The exported calls: each answers 0 or the number of a refusal, and hands its values back behind its arguments, which a refusal keeps.
-use Prim.Native.Nat.{ℕ}
+use Prim.Native.Nat.{ℕ, zero, suc}
 use mathlib.Core.Path.{_≡_}
 use mathlib.Core.List.{List}
 use lib.Dec.{ltb}
 use lib.ListN.{length}
 use Rattle.series.specs.Results.{Result, refused, value, _>>=_, refuse, after, status}
 use Rattle.series.specs.Outputs.{onto}
-use Rattle.series.specs.Series.{Series, method, exercised, draw}
 use Rattle.series.specs.Answers.{Allocation, handedBack}
 use Rattle.series.specs.Call.{answer, output}
+use Rattle.forms.specs.Forms.{Listing, seriesIn, inForm}
+use Rattle.forms.specs.declared.Form.{Form}
 use Rattle.text_rules.specs.Fields.{Text}
 use Rattle.text_rules.specs.Letters.{letter, methodBy}
 use Rattle.text_rules.specs.Calls.{writeInto}
 use Rattle.assignment_text.specs.Printed.{printed}
 use Rattle.dilbreth.specs.declared.Numbers.{Numbers}
 
--- the series whose method comes as its letter; any other byte is 14 before all other refusals
-unfoldable pub seriesBy : ℕ → ℕ → ℕ → List ℕ → List ℕ → List ℕ → Result Series
-seriesBy l S draw codes accounts shorts = do
+-- the form of a number: 0 is shorts, any other number last numbers
+unfoldable pub formBy : ℕ → Form
+formBy zero = Form.Shorts
+formBy (suc n) = Form.LastNumbers
+
+-- the number of a form
+unfoldable pub formNumber : Form → ℕ
+formNumber Form.Shorts = 0
+formNumber Form.LastNumbers = 1
+
+-- the listing whose method comes as its letter and whose form as its number; any other letter is 14 before all other refusals
+unfoldable pub listingBy : ℕ → ℕ → ℕ → ℕ → List ℕ → List ℕ → List ℕ → Result Listing
+listingBy l f S draw codes accounts numbers = do
   m ← methodBy l
-  value (record { terms = record { method = m; exercised = record { 0 = S }; draw = draw }; codes = codes; accounts = accounts; shorts = shorts })
+  value (record { form = formBy f; terms = record { method = m; exercised = record { 0 = S }; draw = draw }; codes = codes; accounts = accounts; numbers = numbers })
 
 -- the allocating call's answer, with an output of length room
-unfoldable pub called : Result Series → ℕ → Result Allocation
+unfoldable pub called : Result Listing → ℕ → Result Allocation
 called r room = do
-  s ← r
-  answer s room
+  l ← r
+  inForm (l .form) (answer (seriesIn l) room)
 
 -- the numbers that an allocation hands back: T and the further number, 0 where there is none
 pub record Handing : Type 0 where
@@ -48,26 +59,27 @@ pub record Number : Type 0 where
   pub old : ℕ
   pub new : ℕ
 
--- the allocating call on s: its answer r, its output from old to new, T and the further number, 0 where there is none
-pub record Allocates (s : Result Series) (r : ℕ) (old new : List ℕ) (total further : Number) : Type 0 where
+-- the allocating call on a listing s: its answer r, its output from old to new, T and the further number, 0 where there is none
+pub record Allocates (s : Result Listing) (r : ℕ) (old new : List ℕ) (total further : Number) : Type 0 where
   pub answers : r ≡ status (called s (length old))
-  pub writes : new ≡ after s (λ t. output t old) old
+  pub writes : new ≡ after s (λ l. output (seriesIn l) old) old
   pub hands-total : total .new ≡ after (called s (length old)) (λ a. a .total) (total .old)
   pub hands-further : further .new ≡ after (called s (length old)) (λ a. handedBack (a .further)) (further .old)
 
--- what reading hands back of a series: the letter of its method, S, the draw and the number of positions
-pub record Reads (s : Result Series) (r : ℕ) (letters exercised′ draw′ positions : Number) : Type 0 where
+-- what reading hands back of a listing: the letter of its method, S, the draw, the number of its form and the number of positions
+pub record Reads (s : Result Listing) (r : ℕ) (letters exercised draw form positions : Number) : Type 0 where
   pub answers : r ≡ status s
-  pub hands-letter : letters .new ≡ after s (λ t. letter (method t)) (letters .old)
-  pub hands-exercised : exercised′ .new ≡ after s exercised (exercised′ .old)
-  pub hands-draw : draw′ .new ≡ after s draw (draw′ .old)
+  pub hands-letter : letters .new ≡ after s (λ t. letter (t .terms .method)) (letters .old)
+  pub hands-exercised : exercised .new ≡ after s (λ t. t .terms .exercised .0) (exercised .old)
+  pub hands-draw : draw .new ≡ after s (λ t. t .terms .draw) (draw .old)
+  pub hands-form : form .new ≡ after s (λ t. formNumber (t .form)) (form .old)
   pub hands-positions : positions .new ≡ after s (λ t. length (t .accounts)) (positions .old)
 
--- the text of a series with this letter, written to an output of length room
-unfoldable pub writtenBy : Result Series → ℕ → Result Text
+-- the text of such a listing, written to an output of length room
+unfoldable pub writtenBy : Result Listing → ℕ → Result Text
 writtenBy r room = do
-  s ← r
-  writeInto s room
+  l ← r
+  writeInto l room
 
 -- what the program prints for the text s, to an output of length room: 4 where it is shorter
 unfoldable pub printedInto : Text → ℕ → Result Text

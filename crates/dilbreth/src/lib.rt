@@ -3,6 +3,7 @@ mod day;
 mod explain;
 
 use assignment_text::Response;
+use forms::Form;
 use series::Answer;
 use series::Contracts;
 use series::Method;
@@ -12,11 +13,32 @@ use series_text::letters::Named;
 use text_writing::Writing;
 ghost use mathlib.Core.Path.{_≡_};
 ghost use lib.ListN.{length};
-ghost use Rattle.series.specs.Results.{value, after};
+ghost use Rattle.series.specs.Results.{value, after, status};
 ghost use Rattle.series.specs.Answers.{answerOf};
 ghost use Rattle.series.specs.Outputs.{onto};
-ghost use Rattle.text_rules.specs.Calls.{readInto};
-ghost use Rattle.dilbreth.specs.Exports.{seriesBy, numbersMean, handedNumbers, Allocates, Reads, writtenBy, printedInto, Writes};
+ghost use Rattle.text_rules.specs.Calls.{readInto, changeInto};
+ghost use Rattle.text_writing.specs.Answers.{writingOf};
+ghost use Rattle.dilbreth.specs.Exports.{formBy, formNumber, listingBy, numbersMean, handedNumbers, Allocates, Reads, writtenBy, printedInto, Writes};
+
+// The form of a number: 0 is shorts, any other number last numbers.
+fn form_by(number: u32) -> Form
+    ensures { λ r. ⌜ r ≡ formBy number ⌝ }
+{
+    if number == 0 {
+        return Form::Shorts;
+    }
+    Form::LastNumbers
+}
+
+// The number of a form.
+fn number_of(form: Form) -> u32
+    ensures { λ r. ⌜ r ≡ formNumber form ⌝ }
+{
+    match form {
+        Form::Shorts => 0,
+        Form::LastNumbers => 1,
+    }
+}
 
 // The values of a series, from numbers.
 fn terms_of(method: Method, exercised: u32, draw: u32) -> Terms
@@ -64,22 +86,23 @@ fn numbers_of(answer: Answer) -> Numbers
 #[no_mangle]
 pub extern "C" fn dilbreth_allocate(
     method: u8,
+    form: u32,
     codes: &[u32],
     accounts: &[u32],
-    shorts: &[u32],
+    numbers: &[u32],
     exercised: u32,
     draw: u32,
     amounts: &mut [u32],
     total: &mut u32,
     further: &mut u32,
 ) -> u32
-    ensures { λ r. ⌜ Allocates (seriesBy method exercised draw (now (codes .entry)) (now (accounts .entry)) (now (shorts .entry))) r (now (amounts .entry)) (now (amounts .exit)) (record { old = now (total .entry); new = now (total .exit) }) (record { old = now (further .entry); new = now (further .exit) }) ⌝ }
+    ensures { λ r. ⌜ Allocates (listingBy method form exercised draw (now (codes .entry)) (now (accounts .entry)) (now (numbers .entry))) r (now (amounts .entry)) (now (amounts .exit)) (record { old = now (total .entry); new = now (total .exit) }) (record { old = now (further .entry); new = now (further .exit) }) ⌝ }
 {
     let Named::Method(named) = series_text::letters::method_by(method) else {
         return 14;
     };
     let terms = terms_of(named, exercised, draw);
-    let answer = allocation::allocate(terms, codes, accounts, shorts, amounts);
+    let answer = listing::allocate(form_by(form), terms, codes, accounts, numbers, amounts);
     match numbers_of(answer) {
         Numbers::Allocated {
             total: sum,
@@ -99,19 +122,21 @@ pub extern "C" fn dilbreth_read(
     text: &[u8],
     codes: &mut [u32],
     accounts: &mut [u32],
-    shorts: &mut [u32],
+    numbers: &mut [u32],
     method: &mut u8,
     exercised: &mut u32,
     draw: &mut u32,
+    form: &mut u32,
     positions: &mut usize,
 ) -> u32
-    ensures { λ _. ⌜ now (codes .exit) ≡ after (readInto (now (text .entry)) (length (now (codes .entry))) (length (now (accounts .entry))) (length (now (shorts .entry)))) (λ s. onto (s .codes) (now (codes .entry))) (now (codes .entry)) ⌝ }
-    ensures { λ _. ⌜ now (accounts .exit) ≡ after (readInto (now (text .entry)) (length (now (codes .entry))) (length (now (accounts .entry))) (length (now (shorts .entry)))) (λ s. onto (s .accounts) (now (accounts .entry))) (now (accounts .entry)) ⌝ }
-    ensures { λ _. ⌜ now (shorts .exit) ≡ after (readInto (now (text .entry)) (length (now (codes .entry))) (length (now (accounts .entry))) (length (now (shorts .entry)))) (λ s. onto (s .shorts) (now (shorts .entry))) (now (shorts .entry)) ⌝ }
-    ensures { λ r. ⌜ Reads (readInto (now (text .entry)) (length (now (codes .entry))) (length (now (accounts .entry))) (length (now (shorts .entry)))) r (record { old = now (method .entry); new = now (method .exit) }) (record { old = now (exercised .entry); new = now (exercised .exit) }) (record { old = now (draw .entry); new = now (draw .exit) }) (record { old = now (positions .entry); new = now (positions .exit) }) ⌝ }
+    ensures { λ _. ⌜ now (codes .exit) ≡ after (readInto (now (text .entry)) (length (now (codes .entry))) (length (now (accounts .entry))) (length (now (numbers .entry)))) (λ s. onto (s .codes) (now (codes .entry))) (now (codes .entry)) ⌝ }
+    ensures { λ _. ⌜ now (accounts .exit) ≡ after (readInto (now (text .entry)) (length (now (codes .entry))) (length (now (accounts .entry))) (length (now (numbers .entry)))) (λ s. onto (s .accounts) (now (accounts .entry))) (now (accounts .entry)) ⌝ }
+    ensures { λ _. ⌜ now (numbers .exit) ≡ after (readInto (now (text .entry)) (length (now (codes .entry))) (length (now (accounts .entry))) (length (now (numbers .entry)))) (λ s. onto (s .numbers) (now (numbers .entry))) (now (numbers .entry)) ⌝ }
+    ensures { λ r. ⌜ Reads (readInto (now (text .entry)) (length (now (codes .entry))) (length (now (accounts .entry))) (length (now (numbers .entry)))) r (record { old = now (method .entry); new = now (method .exit) }) (record { old = now (exercised .entry); new = now (exercised .exit) }) (record { old = now (draw .entry); new = now (draw .exit) }) (record { old = now (form .entry); new = now (form .exit) }) (record { old = now (positions .entry); new = now (positions .exit) }) ⌝ }
 {
-    match series_text::read(text, codes, accounts, shorts) {
+    match series_text::read(text, codes, accounts, numbers) {
         Reading::Series {
+            form: listed,
             terms,
             positions: n,
         } => {
@@ -119,10 +144,24 @@ pub extern "C" fn dilbreth_read(
             *method = series_text::letters::letter_of(named);
             *exercised = terms.exercised.0;
             *draw = terms.draw;
+            *form = number_of(listed);
             *positions = n;
             0
         }
         Reading::Refused(refusal) => series::number(refusal),
+    }
+}
+
+// Hands the length of a written text back behind an argument, and answers 0 or the number of the refusal.
+fn hand_length(writing: Writing, written: &mut usize) -> u32
+    ensures { λ r. ⌜ (r ≡ status (writingOf writing)) × (now (written .exit) ≡ after (writingOf writing) (λ n. n) (now (written .entry))) ⌝ }
+{
+    match writing {
+        Writing::Written(n) => {
+            *written = n;
+            0
+        }
+        Writing::Refused(refusal) => series::number(refusal),
     }
 }
 
@@ -132,25 +171,30 @@ pub extern "C" fn dilbreth_write(
     method: u8,
     exercised: u32,
     draw: u32,
+    form: u32,
     codes: &[u32],
     accounts: &[u32],
-    shorts: &[u32],
+    numbers: &[u32],
     text: &mut [u8],
     written: &mut usize,
 ) -> u32
-    ensures { λ r. ⌜ Writes (writtenBy (seriesBy method exercised draw (now (codes .entry)) (now (accounts .entry)) (now (shorts .entry))) (length (now (text .entry)))) r (now (text .entry)) (now (text .exit)) (record { old = now (written .entry); new = now (written .exit) }) ⌝ }
+    ensures { λ r. ⌜ Writes (writtenBy (listingBy method form exercised draw (now (codes .entry)) (now (accounts .entry)) (now (numbers .entry))) (length (now (text .entry)))) r (now (text .entry)) (now (text .exit)) (record { old = now (written .entry); new = now (written .exit) }) ⌝ }
 {
     let Named::Method(named) = series_text::letters::method_by(method) else {
         return 14;
     };
     let terms = terms_of(named, exercised, draw);
-    match text_writing::write(terms, codes, accounts, shorts, text) {
-        Writing::Written(n) => {
-            *written = n;
-            0
-        }
-        Writing::Refused(refusal) => series::number(refusal),
-    }
+    let writing = text_writing::write(form_by(form), terms, codes, accounts, numbers, text);
+    hand_length(writing, written)
+}
+
+// Changes a text from its form to the other.
+#[no_mangle]
+pub extern "C" fn dilbreth_change(text: &[u8], output: &mut [u8], written: &mut usize) -> u32
+    ensures { λ r. ⌜ Writes (changeInto (now (text .entry)) (length (now (output .entry)))) r (now (output .entry)) (now (output .exit)) (record { old = now (written .entry); new = now (written .exit) }) ⌝ }
+{
+    let writing = form_change::change(text, output);
+    hand_length(writing, written)
 }
 
 // Writes what the program prints for a text: the amounts, or the refusal of the text, which is no refusal of this call.
@@ -159,7 +203,7 @@ pub extern "C" fn dilbreth_respond(text: &[u8], output: &mut [u8], written: &mut
     ensures { λ r. ⌜ Writes (printedInto (now (text .entry)) (length (now (output .entry)))) r (now (output .entry)) (now (output .exit)) (record { old = now (written .entry); new = now (written .exit) }) ⌝ }
 {
     match assignment_text::respond(text, output) {
-        Response::Assigned(n) => {
+        Response::Printed(n) => {
             *written = n;
             0
         }

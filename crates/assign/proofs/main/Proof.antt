@@ -4,7 +4,7 @@ use mathlib.Core.Path.{sym, subst}
 use native.Mathlib.Omega.{arith}
 use lib.ListN.{length}
 use lib.Seq.{length-take-le}
-use Rattle.assign.specs.Inputs.{Within}
+use Rattle.console.specs.Inputs.{Within}
 use borrow.Author.Needs.{needs}
 use Rattle.assign.proofs.main.Statement.{statement}
 use Rattle.assign.proofs.main.Tie as tie

@@ -6,6 +6,13 @@ use Rattle.dilbreth.proofs.ExportLaws.{allocate-unknown, allocate-known
 use borrow.Author.Needs.{needs}
 use Rattle.dilbreth.proofs.dilbreth_allocate.Statement.{statement}
 use Rattle.dilbreth.proofs.dilbreth_allocate.Tie as tie
+use Rattle.dilbreth.proofs.dilbreth_allocate.Reads as reads
+use Rattle.dilbreth.proofs.dilbreth_allocate.Lts as lts
+use Rattle.dilbreth.proofs.form_by.Reads as form-by-reads
+use Rattle.dilbreth.proofs.numbers_of.Reads as numbers-of-reads
+use Rattle.dilbreth.proofs.terms_of.Reads as terms-of-reads
+use Rattle.listing.proofs.allocate.Reads as allocate-reads
+use Rattle.series_text.proofs.letters.method_by.Reads as method-by-reads
 
 method-by-requires : tie.Need-method-by-requires
 method-by-requires c κs = search needs
@@ -17,11 +24,13 @@ enum-told : tie.Need-enum-told
 enum-told c = search needs
 
 returns : tie.Need-returns
-returns c = let a = c .before .before .before .before .before .before .before .args in
-    allocate-unknown (a .method) (a .exercised) (a .draw) (a .codes .now) (a .accounts .now) (a .shorts .now) (sym (ap namedMeans (c .enum-told .given .1)) ∙ c .before .before .method-by .ensures) (a .amounts .now) (a .total .now) (a .further .now)
+returns c = let a = c .before .before .before .before .before .before .before .args in allocate-unknown (a .method) (a .form) (a .exercised) (a .draw) (a .codes .now) (a .accounts .now) (a .numbers .now) (sym (ap namedMeans (c .enum-told .given .1)) ∙ c .before .before .method-by .ensures) (a .amounts .now) (a .total .now) (a .further .now)
 
 terms-of-requires : tie.Need-terms-of-requires
 terms-of-requires c κs = search needs
+
+form-by-requires : tie.Need-form-by-requires
+form-by-requires c κs = search needs
 
 allocate-requires : tie.Need-allocate-requires
 allocate-requires c κs = search needs
@@ -39,17 +48,15 @@ same-length : tie.Need-same-length
 same-length c = search needs
 
 returns-2 : tie.Need-returns-2
-returns-2 c = let a = c .before .before .before .before .before .before .before .before .before .before .before .before .before .before .before .before .before .args in
-    let call = c .before .before .before .before .before .before .allocate .ensures in
-    allocate-known (a .method) (a .exercised) (a .draw) (a .codes .now) (a .accounts .now) (a .shorts .now) _ (sym (ap namedMeans (c .before .before .before .before .before .before .before .before .before .before .named .given .1)) ∙ c .before .before .before .before .before .before .before .before .before .before .before .before .method-by .ensures) _ (c .before .before .before .before .before .before .before .before .terms-of .ensures) _ _ (a .amounts .now) _ (a .total .now) (a .further .now) (sym (ap numbersMean (c .before .sum .given .1)) ∙ c .before .before .before .numbers-of .ensures) (call .answered) (call .written)
+returns-2 c = let a = c .before .before .before .before .before .before .before .before .before .before .before .before .before .before .before .before .before .before .args in
+    allocate-known (a .method) (a .form) (a .exercised) (a .draw) (a .codes .now) (a .accounts .now) (a .numbers .now) _ (sym (ap namedMeans (c .before .before .before .before .before .before .before .before .before .before .before .named .given .1)) ∙ c .before .before .before .before .before .before .before .before .before .before .before .before .before .method-by .ensures) _ (c .before .before .before .before .before .before .before .before .before .terms-of .ensures) _ (c .before .before .before .before .before .before .before .before .form-by .ensures) _ _ (a .amounts .now) _ (a .total .now) (a .further .now) (sym (ap numbersMean (c .before .sum .given .1)) ∙ c .before .before .before .numbers-of .ensures) (c .before .before .before .before .before .before .allocate .ensures)
 
 same-length-2 : tie.Need-same-length-2
 same-length-2 c = search needs
 
 returns-3 : tie.Need-returns-3
-returns-3 c = let a = c .before .before .before .before .before .before .before .before .before .before .before .before .before .before .before .before .before .args in
-    let call = c .before .before .before .before .before .before .allocate .ensures in
-    allocate-known (a .method) (a .exercised) (a .draw) (a .codes .now) (a .accounts .now) (a .shorts .now) _ (sym (ap namedMeans (c .before .before .before .before .before .before .before .before .before .before .named .given .1)) ∙ c .before .before .before .before .before .before .before .before .before .before .before .before .method-by .ensures) _ (c .before .before .before .before .before .before .before .before .terms-of .ensures) _ _ (a .amounts .now) _ (a .total .now) (a .further .now) (sym (ap numbersMean (c .before .number .given .1)) ∙ c .before .before .before .numbers-of .ensures) (call .answered) (call .written)
+returns-3 c = let a = c .before .before .before .before .before .before .before .before .before .before .before .before .before .before .before .before .before .before .args in
+    allocate-known (a .method) (a .form) (a .exercised) (a .draw) (a .codes .now) (a .accounts .now) (a .numbers .now) _ (sym (ap namedMeans (c .before .before .before .before .before .before .before .before .before .before .before .named .given .1)) ∙ c .before .before .before .before .before .before .before .before .before .before .before .before .before .method-by .ensures) _ (c .before .before .before .before .before .before .before .before .before .terms-of .ensures) _ (c .before .before .before .before .before .before .before .before .form-by .ensures) _ _ (a .amounts .now) _ (a .total .now) (a .further .now) (sym (ap numbersMean (c .before .number .given .1)) ∙ c .before .before .before .numbers-of .ensures) (c .before .before .before .before .before .before .allocate .ensures)
 
 pub dilbreth-allocate-spec : {M : Type 1} → statement M
 dilbreth-allocate-spec =
@@ -60,6 +67,7 @@ dilbreth-allocate-spec =
     enum-told
     returns
     terms-of-requires
+    form-by-requires
     allocate-requires
     numbers-of-requires
     enum-known-sum

@@ -5,15 +5,24 @@ use Rattle.dilbreth.proofs.ExportLaws.{read-hands}
 use borrow.Author.Needs.{needs}
 use Rattle.dilbreth.proofs.dilbreth_read.Statement.{statement}
 use Rattle.dilbreth.proofs.dilbreth_read.Tie as tie
+use Rattle.dilbreth.proofs.dilbreth_read.Reads as reads
+use Rattle.dilbreth.proofs.dilbreth_read.Lts as lts
+use Rattle.dilbreth.proofs.number_of.Reads as number-of-reads
+use Rattle.series.proofs.number.Reads as number-reads
+use Rattle.series_text.proofs.letters.letter_of.Reads as letter-of-reads
+use Rattle.series_text.proofs.read.Reads as read-reads
 
 read-requires : tie.Need-read-requires
 read-requires c κs = search needs
 
-enum-known-terms : tie.Need-enum-known-terms
-enum-known-terms c = search needs
+enum-known-listed : tie.Need-enum-known-listed
+enum-known-listed c = search needs
 
 letter-of-requires : tie.Need-letter-of-requires
 letter-of-requires c κs = search needs
+
+number-of-requires : tie.Need-number-of-requires
+number-of-requires c κs = search needs
 
 enum-known-refusal : tie.Need-enum-known-refusal
 enum-known-refusal c = search needs
@@ -31,9 +40,9 @@ same-length-3 : tie.Need-same-length-3
 same-length-3 c = search needs
 
 returns : tie.Need-returns
-returns c = let a = c .before .before .before .before .before .before .before .before .before .before .before .before .before .before .before .before .before .before .args in
-    let read = c .before .before .before .before .before .before .before .before .before .before .read in
-    (read .ensures .1 .0, (read .ensures .1 .1 .0, (read .ensures .1 .1 .1, rw (c .letter-of .ensures) (read-hands _ _ (a .method .now) (a .exercised .now) (a .draw .now) (a .positions .now) (sym (ap readingOf (c .before .before .terms .given .1)) ∙ read .ensures .0)))))
+returns c = let a = c .before .before .before .before .before .before .before .before .before .before .before .before .before .before .before .before .before .before .before .args in
+    let read = c .before .before .before .before .before .before .before .before .before .before .before .read in
+    (read .ensures .1 .0, (read .ensures .1 .1 .0, (read .ensures .1 .1 .1, rw (c .before .letter-of .ensures, c .number-of .ensures) (read-hands _ _ (a .method .now) (a .exercised .now) (a .draw .now) (a .form .now) (a .positions .now) (sym (ap readingOf (c .before .before .before .listed .given .1)) ∙ read .ensures .0)))))
 
 same-length-4 : tie.Need-same-length-4
 same-length-4 c = search needs
@@ -47,15 +56,16 @@ same-length-6 c = search needs
 returns-2 : tie.Need-returns-2
 returns-2 c = let a = c .before .before .before .before .before .before .before .before .before .before .before .before .before .before .before .before .before .before .args in
     let read = c .before .before .before .before .before .before .before .before .before .before .read in
-    (read .ensures .1 .0, (read .ensures .1 .1 .0, (read .ensures .1 .1 .1, rw (c .number .ensures) (read-hands _ _ (a .method .now) (a .exercised .now) (a .draw .now) (a .positions .now) (sym (ap readingOf (c .before .before .refusal .given .1)) ∙ read .ensures .0)))))
+    (read .ensures .1 .0, (read .ensures .1 .1 .0, (read .ensures .1 .1 .1, rw (c .number .ensures) (read-hands _ _ (a .method .now) (a .exercised .now) (a .draw .now) (a .form .now) (a .positions .now) (sym (ap readingOf (c .before .before .refusal .given .1)) ∙ read .ensures .0)))))
 
 pub dilbreth-read-spec : {M : Type 1} → statement M
 dilbreth-read-spec =
     tie.close
     (tie.spec
     read-requires
-    enum-known-terms
+    enum-known-listed
     letter-of-requires
+    number-of-requires
     enum-known-refusal
     number-requires
     same-length

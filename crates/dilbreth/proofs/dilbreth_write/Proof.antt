@@ -1,11 +1,17 @@
 -- `dilbreth_write` meets its contract: the letter's method is written, and the length handed back.
 use mathlib.Core.Path.{sym, ap, _∙_}
 use Rattle.series_text.specs.Parts.{namedMeans}
-use Rattle.text_writing.specs.Answers.{writingOf}
 use Rattle.dilbreth.proofs.ExportLaws.{write-unknown, write-known}
 use borrow.Author.Needs.{needs}
 use Rattle.dilbreth.proofs.dilbreth_write.Statement.{statement}
 use Rattle.dilbreth.proofs.dilbreth_write.Tie as tie
+use Rattle.dilbreth.proofs.dilbreth_write.Reads as reads
+use Rattle.dilbreth.proofs.dilbreth_write.Lts as lts
+use Rattle.dilbreth.proofs.form_by.Reads as form-by-reads
+use Rattle.dilbreth.proofs.hand_length.Reads as hand-length-reads
+use Rattle.dilbreth.proofs.terms_of.Reads as terms-of-reads
+use Rattle.series_text.proofs.letters.method_by.Reads as method-by-reads
+use Rattle.text_writing.proofs.write.Reads as write-reads
 
 method-by-requires : tie.Need-method-by-requires
 method-by-requires c κs = search needs
@@ -17,39 +23,27 @@ enum-told : tie.Need-enum-told
 enum-told c = search needs
 
 returns : tie.Need-returns
-returns c = let a = c .before .before .before .before .before .before .before .args in
-    write-unknown (a .method) (a .exercised) (a .draw) (a .codes .now) (a .accounts .now) (a .shorts .now) (sym (ap namedMeans (c .enum-told .given .1)) ∙ c .before .before .method-by .ensures) (a .text .now) (a .written .now)
+returns c = let a = c .before .before .before .before .before .before .before .args in write-unknown (a .method) (a .form) (a .exercised) (a .draw) (a .codes .now) (a .accounts .now) (a .numbers .now) (sym (ap namedMeans (c .enum-told .given .1)) ∙ c .before .before .method-by .ensures) (a .text .now) (a .written .now)
 
 terms-of-requires : tie.Need-terms-of-requires
 terms-of-requires c κs = search needs
 
+form-by-requires : tie.Need-form-by-requires
+form-by-requires c κs = search needs
+
 write-requires : tie.Need-write-requires
 write-requires c κs = search needs
 
-enum-known-n : tie.Need-enum-known-n
-enum-known-n c = search needs
-
-enum-known-refusal : tie.Need-enum-known-refusal
-enum-known-refusal c = search needs
-
-number-requires : tie.Need-number-requires
-number-requires c κs = search needs
+hand-length-requires : tie.Need-hand-length-requires
+hand-length-requires c κs = search needs
 
 same-length : tie.Need-same-length
 same-length c = search needs
 
 returns-2 : tie.Need-returns-2
 returns-2 c = let a = c .before .before .before .before .before .before .before .before .before .before .before .before .before .before .before .before .args in
-    let write = c .before .before .before .before .before .write in
-    write-known (a .method) (a .exercised) (a .draw) (a .codes .now) (a .accounts .now) (a .shorts .now) _ (sym (ap namedMeans (c .before .before .before .before .before .before .before .before .before .named .given .1)) ∙ c .before .before .before .before .before .before .before .before .before .before .before .method-by .ensures) _ (c .before .before .before .before .before .before .before .terms-of .ensures) _ (a .text .now) _ (a .written .now) (sym (ap writingOf (c .before .n .given .1)) ∙ write .ensures .0) (write .ensures .1)
-
-same-length-2 : tie.Need-same-length-2
-same-length-2 c = search needs
-
-returns-3 : tie.Need-returns-3
-returns-3 c = let a = c .before .before .before .before .before .before .before .before .before .before .before .before .before .before .before .before .before .args in
-    let write = c .before .before .before .before .before .before .write in
-    rw (c .number .ensures) (write-known (a .method) (a .exercised) (a .draw) (a .codes .now) (a .accounts .now) (a .shorts .now) _ (sym (ap namedMeans (c .before .before .before .before .before .before .before .before .before .before .named .given .1)) ∙ c .before .before .before .before .before .before .before .before .before .before .before .before .method-by .ensures) _ (c .before .before .before .before .before .before .before .before .terms-of .ensures) _ (a .text .now) _ (a .written .now) (sym (ap writingOf (c .before .before .refusal .given .1)) ∙ write .ensures .0) (write .ensures .1))
+    let write = c .before .before .before .before .write in
+    write-known (a .method) (a .form) (a .exercised) (a .draw) (a .codes .now) (a .accounts .now) (a .numbers .now) _ (sym (ap namedMeans (c .before .before .before .before .before .before .before .before .before .named .given .1)) ∙ c .before .before .before .before .before .before .before .before .before .before .before .method-by .ensures) _ (c .before .before .before .before .before .before .before .terms-of .ensures) _ (c .before .before .before .before .before .before .form-by .ensures) _ _ (a .text .now) _ (a .written .now) _ (write .ensures .0) (write .ensures .1) (c .hand-length .ensures .0) (c .hand-length .ensures .1)
 
 pub dilbreth-write-spec : {M : Type 1} → statement M
 dilbreth-write-spec =
@@ -60,11 +54,8 @@ dilbreth-write-spec =
     enum-told
     returns
     terms-of-requires
+    form-by-requires
     write-requires
-    enum-known-n
-    enum-known-refusal
-    number-requires
+    hand-length-requires
     same-length
-    returns-2
-    same-length-2
-    returns-3)
+    returns-2)

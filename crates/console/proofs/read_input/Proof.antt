@@ -4,10 +4,10 @@ use mathlib.Core.Path.{_≡_, refl, subst, _∙_}
 use native.Mathlib.Omega.{arith}
 use lib.ListN.{length, take, drop, length-take, length-drop}
 use borrow.Rule.Slice.PartMut.{putMid, same-len-mid}
-use Rattle.assign.specs.Inputs.{Within}
+use Rattle.console.specs.Inputs.{Within}
 use borrow.Author.Needs.{needs}
-use Rattle.assign.proofs.streams.read_input.Statement.{statement}
-use Rattle.assign.proofs.streams.read_input.Tie as tie
+use Rattle.console.proofs.read_input.Statement.{statement}
+use Rattle.console.proofs.read_input.Tie as tie
 
 abbrev Inv-loop : tie.InvT-loop
 Inv-loop buffer₀ n₀ buffer n = (n ≤ length buffer) × (length buffer ≡ length buffer₀)

@@ -1,9 +1,9 @@
--- `streams::write_whole` meets its contract: what is written lies within the bytes.
+-- `write_whole` meets its contract: what is written lies within the bytes.
 use Prim.Native.Nat.{_-_, _≤_}
 use lib.ListN.{length}
 use borrow.Author.Needs.{needs}
-use Rattle.assign.proofs.streams.write_whole.Statement.{statement}
-use Rattle.assign.proofs.streams.write_whole.Tie as tie
+use Rattle.console.proofs.write_whole.Statement.{statement}
+use Rattle.console.proofs.write_whole.Tie as tie
 
 abbrev Inv-loop : tie.InvT-loop
 Inv-loop descriptor bytes n₀ n = n ≤ length bytes

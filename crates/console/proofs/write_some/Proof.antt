@@ -1,7 +1,7 @@
--- `streams::write_some` meets its contract. The loop ends since each interruption lowers the number that is left.
+-- `write_some` meets its contract. The loop ends since each interruption lowers the number that is left.
 use borrow.Author.Needs.{needs}
-use Rattle.assign.proofs.streams.write_some.Statement.{statement}
-use Rattle.assign.proofs.streams.write_some.Tie as tie
+use Rattle.console.proofs.write_some.Statement.{statement}
+use Rattle.console.proofs.write_some.Tie as tie
 
 abbrev Inv-loop : tie.InvT-loop
 Inv-loop descriptor bytes left₀ left = Unit

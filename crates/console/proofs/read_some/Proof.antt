@@ -1,9 +1,9 @@
--- `streams::read_some` meets its contract. The loop ends since each interruption lowers the number that is left.
+-- `read_some` meets its contract. The loop ends since each interruption lowers the number that is left.
 use mathlib.Core.Path.{_≡_}
 use lib.ListN.{length}
 use borrow.Author.Needs.{needs}
-use Rattle.assign.proofs.streams.read_some.Statement.{statement}
-use Rattle.assign.proofs.streams.read_some.Tie as tie
+use Rattle.console.proofs.read_some.Statement.{statement}
+use Rattle.console.proofs.read_some.Tie as tie
 
 abbrev Inv-loop : tie.InvT-loop
 Inv-loop buffer₀ left₀ buffer left = length buffer ≡ length buffer₀

@@ -1,0 +1,29 @@
+-- `hand_length` meets its contract.
+use mathlib.Core.Path.{sym, ap, _∙_}
+use Rattle.series.specs.Results.{after, status}
+use Rattle.text_writing.specs.Answers.{writingOf}
+use borrow.Author.Needs.{needs}
+use Rattle.dilbreth.proofs.hand_length.Statement.{statement}
+use Rattle.dilbreth.proofs.hand_length.Tie as tie
+use Rattle.dilbreth.proofs.hand_length.Reads as reads
+use Rattle.dilbreth.proofs.hand_length.Lts as lts
+use Rattle.series.proofs.number.Reads as number-reads
+
+enum-known-writing : tie.Need-enum-known-writing
+enum-known-writing c = search needs
+
+enum-known-writing-2 : tie.Need-enum-known-writing-2
+enum-known-writing-2 c = search needs
+
+number-requires : tie.Need-number-requires
+number-requires c κs = search needs
+
+returns : tie.Need-returns
+returns c = search needs
+
+returns-2 : tie.Need-returns-2
+returns-2 c = let a = c .before .before .before .before .args in let is = ap writingOf (sym (c .before .before .writing2 .given .1)) in (c .number .ensures ∙ ap status is, ap (λ w. after w (λ n. n) (a .written .now)) is)
+
+pub hand-length-spec : {M : Type 1} → statement M
+hand-length-spec =
+    tie.close (tie.spec enum-known-writing enum-known-writing-2 number-requires returns returns-2)

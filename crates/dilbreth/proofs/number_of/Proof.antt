@@ -1,0 +1,25 @@
+-- `number_of` meets its contract.
+use mathlib.Core.Path.{refl}
+use Rattle.dilbreth.specs.Exports.{formNumber}
+use borrow.Author.Needs.{needs}
+use Rattle.dilbreth.proofs.number_of.Statement.{statement}
+use Rattle.dilbreth.proofs.number_of.Tie as tie
+use Rattle.dilbreth.proofs.number_of.Reads as reads
+use Rattle.dilbreth.proofs.number_of.Lts as lts
+
+enum-told : tie.Need-enum-told
+enum-told c = search needs
+
+enum-told-2 : tie.Need-enum-told-2
+enum-told-2 c = search needs
+
+returns : tie.Need-returns
+unfolding formNumber
+returns c = rw (c .enum-told .given .1) refl
+
+returns-2 : tie.Need-returns-2
+unfolding formNumber
+returns-2 c = rw (c .enum-told2 .given .1) refl
+
+pub number-of-spec : {M : Type 1} → statement M
+number-of-spec = tie.close (tie.spec enum-told enum-told-2 returns returns-2)
