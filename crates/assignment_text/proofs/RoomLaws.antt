@@ -39,9 +39,14 @@ pub record Printable (n : ℕ) : Type 0 where
   pub some : 0 < n
   pub most : n ≤ MOST_PRINTED
 
+-- a refusal has at most 19 bytes
+pub refused-room : (n : ℕ) → length (refusedLines n) ≤ 19
+unfolding refusedLines ascii
+refused-room n = omega (arith, length-append (ascii "refused\n") (writeRow (n ∷ [])), row-few (n ∷ []))
+
 refused-printable : (n : ℕ) → Printable (length (refusedLines n))
 unfolding refusedLines ascii
-refused-printable n = record { some = omega arith; most = omega (arith, length-append (ascii "refused\n") (writeRow (n ∷ [])), row-few (n ∷ [])) }
+refused-printable n = record { some = omega arith; most = omega (arith, refused-room n) }
 
 assigned-room : (accounts amounts : List ℕ) → length accounts ≤ MOST_LINES → length (assignedLines accounts amounts) ≤ 22545
 unfolding assignedLines ascii lineCount
@@ -128,12 +133,15 @@ pub printed-room : (s : Text) → Printable (length (printed s))
 unfolding printed
 printed-room s = lines-printable (textOrRefusal s) (small-in-text s)
 
--- all that is printed for a text stands in an output with room for it
-pub printed-whole : (s : Text) (r : Response) (v : ℕ) (old new : Text) → MOST_PRINTED ≤ length old → Responds r (printed s) v old new → Whole (responseOf r .written) (printed s) new
+-- all that is printed stands in an output with room for it
+pub responds-whole : (t : Text) (r : Response) (v : ℕ) (old new : Text) → length t ≤ length old → Responds r t v old new → Whole (responseOf r .written) t new
 unfolding printInto ontoRoom onto
-printed-whole s r v old new room p =
-    let fits = le-ltb (length old) (length (printed s)) (omega (arith, printed-room s .most)) in
-    let hands : responseOf r ≡ record { written = length (printed s); refusal = v } = rw fits at (p .hands) in
-    let written : responseOf r .written ≡ length (printed s) = ap (λ (h : Printing). h .written) hands in
-    let output : new ≡ printed s ++ drop (length (printed s)) old = rw fits at (p .output) in
-    record { bytes = written; text = rw (written, output) (take-at (printed s) (drop (length (printed s)) old) (length (printed s)) refl) }
+responds-whole t r v old new room p =
+    let fits = le-ltb (length old) (length t) room in
+    let hands : responseOf r ≡ record { written = length t; refusal = v } = rw fits at (p .hands) in
+    let written : responseOf r .written ≡ length t = ap (λ (h : Printing). h .written) hands in
+    let output : new ≡ t ++ drop (length t) old = rw fits at (p .output) in
+    record { bytes = written; text = rw (written, output) (take-at t (drop (length t) old) (length t) refl) }
+
+pub printed-whole : (s : Text) (r : Response) (v : ℕ) (old new : Text) → MOST_PRINTED ≤ length old → Responds r (printed s) v old new → Whole (responseOf r .written) (printed s) new
+printed-whole s r v old new room p = responds-whole (printed s) r v old new (omega (arith, printed-room s .most)) p

@@ -8,9 +8,17 @@ use Rattle.console.specs.Inputs.{Within}
 use borrow.Author.Needs.{needs}
 use Rattle.assign.proofs.main.Statement.{statement}
 use Rattle.assign.proofs.main.Tie as tie
+use Rattle.assign.proofs.main.Reads as reads
+use Rattle.assign.proofs.main.Lts as lts
+use Rattle.assign.proofs.output_buffer.Reads as output-buffer-reads
+use Rattle.assign.proofs.respond.Reads as respond-reads
+use Rattle.console.proofs.input_buffer.Reads as input-buffer-reads
+use Rattle.console.proofs.read_input.Reads as read-input-reads
+use Rattle.console.proofs.say.Reads as say-reads
+use Rattle.console.proofs.tell.Reads as tell-reads
 
 fits : (c : tie.After-known-told) → c .before .n .given .0 .0 ≤ length (c .before .before .before .before .read-input .last .0)
-fits c = omega (arith, subst (λ r. Within r (length (c .before .before .before .before .before .before .before .input-buffer .result))) (c .before .n .given .1) (c .before .before .before .before .read-input .ensures), c .before .before .before .before .read-input .kept .0)
+fits c = let read = c .before .before .before .before .read-input in omega (arith, subst (λ r. Within r (length (c .before .before .before .before .before .before .before .input-buffer .result))) (c .before .n .given .1) (read .ensures), read .kept .0)
 
 input-buffer-requires : tie.Need-input-buffer-requires
 input-buffer-requires c κs = search needs
@@ -30,20 +38,35 @@ enum-known-n c = search needs
 array-share-prefix-input : tie.Need-array-share-prefix-input
 array-share-prefix-input c = fits c
 
-slice-aggregate-answer : tie.Need-slice-aggregate-answer
-slice-aggregate-answer c = sym (length-take-le _ _ (fits (c .before)))
+slice-aggregate-respond : tie.Need-slice-aggregate-respond
+slice-aggregate-respond c = sym (length-take-le _ _ (fits (c .before)))
 
-slice-aggregate-answer-2 : tie.Need-slice-aggregate-answer-2
-slice-aggregate-answer-2 c = search needs
+slice-aggregate-respond-2 : tie.Need-slice-aggregate-respond-2
+slice-aggregate-respond-2 c = search needs
 
-answer-requires : tie.Need-answer-requires
-answer-requires c κs = search needs
+respond-requires : tie.Need-respond-requires
+respond-requires c κs = search needs
+
+slice-aggregate-tell : tie.Need-slice-aggregate-tell
+slice-aggregate-tell c = search needs
+
+slice-aggregate-tell-2 : tie.Need-slice-aggregate-tell-2
+slice-aggregate-tell-2 c = search needs
+
+slice-aggregate-tell-3 : tie.Need-slice-aggregate-tell-3
+slice-aggregate-tell-3 c = search needs
+
+tell-requires : tie.Need-tell-requires
+tell-requires c κs = search needs
 
 enum-told : tie.Need-enum-told
 enum-told c = search needs
 
 slice-aggregate-say : tie.Need-slice-aggregate-say
 slice-aggregate-say c = search needs
+
+slice-aggregate-say-2 : tie.Need-slice-aggregate-say-2
+slice-aggregate-say-2 c = search needs
 
 say-requires : tie.Need-say-requires
 say-requires c κs = search needs
@@ -64,11 +87,16 @@ main-spec =
     read-input-requires
     enum-known-n
     array-share-prefix-input
-    slice-aggregate-answer
-    slice-aggregate-answer-2
-    answer-requires
+    slice-aggregate-respond
+    slice-aggregate-respond-2
+    respond-requires
+    slice-aggregate-tell
+    slice-aggregate-tell-2
+    slice-aggregate-tell-3
+    tell-requires
     enum-told
     slice-aggregate-say
+    slice-aggregate-say-2
     say-requires
     returns
     returns-2)

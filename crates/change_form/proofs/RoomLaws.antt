@@ -1,0 +1,60 @@
+-- All that is printed for a text stands in an output of 31,809 bytes.
+use Prim.Native.Nat.{ℕ, _≤_}
+use mathlib.Core.Path.{_≡_, refl, sym, ap, subst, _∙_}
+use mathlib.Core.List.{List, _++_}
+use native.Mathlib.Omega.{arith}
+use borrow.Author.Tests.{le-ltb}
+use lib.Dec.{ltb}
+use lib.ListN.{length, drop}
+use lib.Seq.{take-at}
+use Rattle.series.specs.Results.{Result, refused, value, _>>=_, refuse, after}
+use Rattle.series.specs.Outputs.{onto}
+use Rattle.series.proofs.ResultLaws.{never, value-is}
+use Rattle.forms.specs.Forms.{Listing, changed}
+use Rattle.text_rules.specs.Fields.{Text}
+use Rattle.text_rules.specs.Text.{readText, writeText}
+use Rattle.text_rules.specs.Calls.{changedInto, changeInto, MOST_CHANGED, lengthOf}
+use Rattle.text_rules.proofs.ShortestText.{read-writable}
+use Rattle.text_rules.proofs.ChangeLaws.{Change, change-writes, changed-short}
+use Rattle.assignment_text.specs.Printed.{refusedLines}
+use Rattle.assignment_text.specs.Responses.{responseOf, Responds, Whole}
+use Rattle.assignment_text.specs.declared.Response.{Response}
+use Rattle.assignment_text.proofs.RoomLaws.{refused-room, responds-whole}
+use Rattle.change_form.specs.Changed.{linesOf, changedLines}
+
+-- in an output that is long enough the change is the same
+room-enough : (s : Text) (room : ℕ) → MOST_CHANGED ≤ room → changeInto s room ≡ changeInto s MOST_CHANGED
+unfolding changeInto changedInto
+room-enough s room enough = go (readText s) refl
+  where
+    made : (l : Listing) → readText s ≡ value l → (r : Result Listing) → changed l ≡ r → changeInto s room ≡ changeInto s MOST_CHANGED
+    made l e (refused n) f = rw (e, f) refl
+    made l e (value o) f =
+        let c : Change s l o = record { reads = e; changes = f } in
+        let short = changed-short l o (read-writable s l e) f in
+        change-writes s l o c room ∙ ap (λ b. refuse b 4 (writeText o)) (le-ltb room (length (writeText o)) (omega arith) ∙ sym (le-ltb MOST_CHANGED (length (writeText o)) short)) ∙ sym (change-writes s l o c MOST_CHANGED)
+
+    go : (r : Result Listing) → readText s ≡ r → changeInto s room ≡ changeInto s MOST_CHANGED
+    go (refused n) e = rw e refl
+    go (value l) e = made l e (changed l) refl
+
+-- a changed text stands whole in the output
+pub whole-written : (s old new : Text) (n : ℕ) → MOST_CHANGED ≤ length old → value n ≡ lengthOf (changeInto s (length old)) → new ≡ after (changeInto s (length old)) (λ t. onto t old) old → Whole n (changedLines s) new
+unfolding changedLines linesOf lengthOf onto
+whole-written s old new n enough e out = go (changeInto s (length old)) (room-enough s (length old) enough) e out
+  where
+    go : (r : Result Text) → r ≡ changeInto s MOST_CHANGED → value n ≡ (r >>= λ t. value (length t)) → new ≡ after r (λ t. t ++ drop (length t) old) old → Whole n (linesOf (changeInto s MOST_CHANGED)) new
+    go (refused k) is f g = absurd (never k n (sym f))
+    go (value t) is f g = rw (← is) (record { bytes = value-is f; text = rw (g, value-is f) (take-at t (drop (length t) old) (length t) refl) })
+
+-- and so do the lines of a refusal, before which nothing was written
+pub whole-refused : (s old mid new : Text) (n : ℕ) (r : Response) → MOST_CHANGED ≤ length old → refused n ≡ lengthOf (changeInto s (length old)) → mid ≡ after (changeInto s (length old)) (λ t. onto t old) old
+    → Responds r (refusedLines n) n mid new → Whole (responseOf r .written) (changedLines s) new
+unfolding changedLines linesOf lengthOf
+whole-refused s old mid new n r enough e out p = go (changeInto s (length old)) (room-enough s (length old) enough) e out
+  where
+    go : (v : Result Text) → v ≡ changeInto s MOST_CHANGED → refused n ≡ (v >>= λ t. value (length t)) → mid ≡ after v (λ t. onto t old) old → Whole (responseOf r .written) (linesOf (changeInto s MOST_CHANGED)) new
+    go (value t) is f g = absurd (never n (length t) f)
+    go (refused k) is f g =
+        let same : k ≡ n = cc in
+        rw (← is, same) (responds-whole (refusedLines n) r n mid new (omega (arith, refused-room n, ap length g)) p)
