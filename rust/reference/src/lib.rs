@@ -15,23 +15,52 @@ pub const INCREMENT: u64 = 25;
 /// What is printed has at most so many bytes: two names lines, and for each position a line with its account and
 /// amount, ten digits each, and one with its account and the four ends of its ranges, eight digits each.
 pub const MOST_PRINTED: usize = 17 + 32 + MOST_LINES * (22 + 47);
+/// A changed text has at most so many bytes: line 1, line 2 with two numbers of ten digits, line 3, and for each
+/// position a line with its code and account, ten digits each, and its number, eight digits.
+pub const MOST_CHANGED: usize = 22 + 24 + 19 + MOST_LINES * 31;
 
 const NAMES_1: &[u8] = b"method,exercised,draw\n";
-const NAMES_3: &[u8] = b"account,short\n";
-const NAMES_3_WITH_CODE: &[u8] = b"code,account,short\n";
 
-/// The positions of a call in list order: their codes, accounts and shorts.
+/// What the number of a position is: its shorts, or its last sequence number.
+#[derive(Clone, Copy, Debug, PartialEq, Eq)]
+pub enum Form {
+    Shorts,
+    LastNumbers,
+}
+
+pub const FORMS: [Form; 2] = [Form::Shorts, Form::LastNumbers];
+
+/// The positions of a call in list order: their codes, their accounts and their numbers in one of the forms.
 #[derive(Clone, Copy, Debug)]
 pub struct List<'a> {
+    pub form: Form,
     pub codes: &'a [u32],
     pub accounts: &'a [u32],
-    pub shorts: &'a [u32],
+    pub numbers: &'a [u32],
 }
 
 impl<'a> List<'a> {
-    /// Each code is the account number.
+    /// In the form of shorts; each code is the account number.
     pub fn by_account(accounts: &'a [u32], shorts: &'a [u32]) -> List<'a> {
-        List { codes: accounts, accounts, shorts }
+        List { form: Form::Shorts, codes: accounts, accounts, numbers: shorts }
+    }
+
+    /// The shorts of each position; last numbers have to rise.
+    pub fn shorts(&self) -> Vec<u32> {
+        match self.form {
+            Form::Shorts => self.numbers.to_vec(),
+            Form::LastNumbers => {
+                (0..self.numbers.len()).map(|at| self.numbers[at] - before(self.numbers, at)).collect()
+            }
+        }
+    }
+
+    /// The last sequence number of each position, the contracts being numbered from 1 on in list order.
+    pub fn last_numbers(&self) -> Vec<u32> {
+        match self.form {
+            Form::Shorts => (1..=self.numbers.len()).map(|count| self.numbers[..count].iter().sum()).collect(),
+            Form::LastNumbers => self.numbers.to_vec(),
+        }
     }
 }
 
@@ -47,14 +76,15 @@ pub struct Series {
     pub method: u8,
     pub exercised: u32,
     pub draw: u32,
+    pub form: Form,
     pub codes: Vec<u32>,
     pub accounts: Vec<u32>,
-    pub shorts: Vec<u32>,
+    pub numbers: Vec<u32>,
 }
 
 impl Series {
     pub fn list(&self) -> List<'_> {
-        List { codes: &self.codes, accounts: &self.accounts, shorts: &self.shorts }
+        List { form: self.form, codes: &self.codes, accounts: &self.accounts, numbers: &self.numbers }
     }
 }
 
@@ -69,36 +99,54 @@ fn first(refusals: &[(u32, bool)]) -> Result<(), u32> {
     }
 }
 
-/// Whether the number at the index is above the one before it, or above 0 at the first.
+/// The number before the one at the index, 0 before the first.
+fn before(numbers: &[u32], at: usize) -> u32 {
+    if at == 0 {
+        0
+    } else {
+        numbers[at - 1]
+    }
+}
+
+/// Whether the number at the index is above the one before it.
 fn rises(numbers: &[u32], at: usize) -> bool {
-    let before = if at == 0 { 0 } else { numbers[at - 1] };
-    numbers[at] > before
+    numbers[at] > before(numbers, at)
+}
+
+/// The first refusal of a list that applies, or T; `room` is the length of the output.
+pub fn judge_list(method: u8, list: List, room: usize) -> Result<u32, u32> {
+    let List { form, codes, accounts, numbers } = list;
+    let by_code = method == b'W';
+    first(&[
+        (14, !known(method)),
+        (1, accounts.len() != numbers.len() || by_code && codes.len() != numbers.len()),
+        (2, numbers.len() > MOST_POSITIONS),
+        (3, numbers.is_empty()),
+        (4, room < numbers.len()),
+    ])?;
+    let mut earlier = HashSet::new();
+    let mut contracts = 0u64;
+    for (at, &number) in numbers.iter().enumerate() {
+        contracts = match form {
+            Form::Shorts => contracts + u64::from(number),
+            Form::LastNumbers => u64::from(number),
+        };
+        first(&[
+            (5, !rises(if by_code { codes } else { accounts }, at)),
+            (19, by_code && (accounts[at] == 0 || !earlier.insert(accounts[at]))),
+            (6, form == Form::Shorts && number == 0),
+            (20, form == Form::LastNumbers && !rises(numbers, at)),
+            (7, contracts > MOST_CONTRACTS),
+        ])?;
+    }
+    Ok(contracts as u32)
 }
 
 /// The first refusal of the allocating call that applies, the draw left aside, or T.
 pub fn judge(method: u8, list: List, exercised: u32, room: usize) -> Result<u32, u32> {
-    let List { codes, accounts, shorts } = list;
-    let by_code = method == b'W';
-    first(&[
-        (14, !known(method)),
-        (1, accounts.len() != shorts.len() || by_code && codes.len() != shorts.len()),
-        (2, shorts.len() > MOST_POSITIONS),
-        (3, shorts.is_empty()),
-        (4, room < shorts.len()),
-    ])?;
-    let mut earlier = HashSet::new();
-    let mut sum = 0u64;
-    for (at, &short) in shorts.iter().enumerate() {
-        sum += u64::from(short);
-        first(&[
-            (5, !rises(if by_code { codes } else { accounts }, at)),
-            (19, by_code && (accounts[at] == 0 || !earlier.insert(accounts[at]))),
-            (6, short == 0),
-            (7, sum > MOST_CONTRACTS),
-        ])?;
-    }
-    first(&[(8, exercised == 0), (9, u64::from(exercised) > sum)])?;
-    Ok(sum as u32)
+    let total = judge_list(method, list, room)?;
+    first(&[(8, exercised == 0), (9, exercised > total)])?;
+    Ok(total)
 }
 
 pub fn judge_draw(method: u8, total: u32, draw: u32) -> Result<(), u32> {
@@ -136,12 +184,12 @@ pub fn by_draw(method: u8, shorts: &[u32], total: u32, exercised: u32, draw: u32
 /// The allocating call; `room` is the length of its output.
 pub fn allocate(method: u8, list: List, exercised: u32, draw: u32, room: usize) -> Result<Allocation, u32> {
     let total = judge(method, list, exercised, room)?;
-    let shorts = list.shorts;
-    let (amounts, further) = match without_draw(method, shorts, total, exercised) {
+    let shorts = list.shorts();
+    let (amounts, further) = match without_draw(method, &shorts, total, exercised) {
         Some(amounts) => (amounts, 0),
         None => {
             judge_draw(method, total, draw)?;
-            by_draw(method, shorts, total, exercised, draw)
+            by_draw(method, &shorts, total, exercised, draw)
         }
     };
     Ok(Allocation { amounts, total, further })
@@ -324,6 +372,28 @@ fn fields(line: &[u8], count: usize) -> Result<Vec<&[u8]>, u32> {
     }
 }
 
+/// Line 3.
+fn names_3(with_code: bool, form: Form) -> &'static [u8] {
+    match (with_code, form) {
+        (false, Form::Shorts) => b"account,short\n",
+        (true, Form::Shorts) => b"code,account,short\n",
+        (false, Form::LastNumbers) => b"account,last\n",
+        (true, Form::LastNumbers) => b"code,account,last\n",
+    }
+}
+
+/// Whether a line 3 has the code, and its form.
+fn columns_of(line: &[u8]) -> Result<(bool, Form), u32> {
+    for form in FORMS {
+        for with_code in [false, true] {
+            if line == names_3(with_code, form) {
+                return Ok((with_code, form));
+            }
+        }
+    }
+    Err(12)
+}
+
 /// Reads a text without regard to the room of the lent lists.
 pub fn read_text(text: &[u8]) -> Result<Series, u32> {
     if text.len() > MOST_BYTES {
@@ -340,29 +410,26 @@ pub fn read_text(text: &[u8]) -> Result<Series, u32> {
     };
     let exercised = number(line[1])?;
     let draw = number(line[2])?;
-    let columns = match lines.next() {
-        Some(NAMES_3) => 2,
-        Some(NAMES_3_WITH_CODE) => 3,
-        _ => return Err(12),
-    };
-    let mut series = Series { method, exercised, draw, codes: vec![], accounts: vec![], shorts: vec![] };
+    let (with_code, form) = columns_of(lines.next().unwrap_or(b""))?;
+    let columns = if with_code { 3 } else { 2 };
+    let mut series = Series { method, exercised, draw, form, codes: vec![], accounts: vec![], numbers: vec![] };
     for line in lines {
-        if series.shorts.len() == MOST_LINES {
+        if series.numbers.len() == MOST_LINES {
             return Err(15);
         }
         let numbers = fields(line, columns)?.into_iter().map(number).collect::<Result<Vec<u32>, u32>>()?;
         // Of two columns the first is account and code.
         series.codes.push(numbers[0]);
         series.accounts.push(numbers[columns - 2]);
-        series.shorts.push(numbers[columns - 1]);
+        series.numbers.push(numbers[columns - 1]);
     }
     Ok(series)
 }
 
-/// The reading call; the rooms are the lengths of the lent lists for codes, accounts and shorts.
+/// The reading call; the rooms are the lengths of the lent lists for codes, accounts and numbers.
 pub fn read(text: &[u8], rooms: [usize; 3]) -> Result<Series, u32> {
     let series = read_text(text)?;
-    if rooms.iter().any(|&room| room < series.shorts.len()) {
+    if rooms.iter().any(|&room| room < series.numbers.len()) {
         return Err(4);
     }
     Ok(series)
@@ -373,48 +440,74 @@ fn text_of(method: u8, exercised: u32, draw: u32, list: List) -> Vec<u8> {
     let with_code = list.codes != list.accounts;
     let mut text = NAMES_1.to_vec();
     text.extend(format!("{},{exercised},{draw}\n", char::from(method)).bytes());
-    text.extend(if with_code { NAMES_3_WITH_CODE } else { NAMES_3 });
-    for ((code, account), short) in list.codes.iter().zip(list.accounts).zip(list.shorts) {
+    text.extend(names_3(with_code, list.form));
+    for ((code, account), number) in list.codes.iter().zip(list.accounts).zip(list.numbers) {
         if with_code {
             text.extend(format!("{code},").bytes());
         }
-        text.extend(format!("{account},{short}\n").bytes());
+        text.extend(format!("{account},{number}\n").bytes());
     }
     text
 }
 
 /// The writing call; `room` is the length of its output.
 pub fn write(method: u8, exercised: u32, draw: u32, list: List, room: usize) -> Result<Vec<u8>, u32> {
-    let [codes, accounts, shorts] = [list.codes, list.accounts, list.shorts].map(<[u32]>::len);
-    first(&[(14, !known(method)), (1, codes != shorts || accounts != shorts), (15, shorts > MOST_LINES)])?;
+    let [codes, accounts, numbers] = [list.codes, list.accounts, list.numbers].map(<[u32]>::len);
+    first(&[(14, !known(method)), (1, codes != numbers || accounts != numbers), (15, numbers > MOST_LINES)])?;
     let text = text_of(method, exercised, draw, list);
     first(&[(11, text.len() > MOST_BYTES), (4, room < text.len())])?;
     Ok(text)
 }
 
-/// The bytes that the program prints for a text.
-pub fn printed(text: &[u8]) -> Vec<u8> {
-    let answer = read_text(text).and_then(|s| {
-        let found = allocate(s.method, s.list(), s.exercised, s.draw, s.shorts.len())?;
-        Ok((s, found.amounts))
-    });
-    let mut out = String::new();
-    match answer {
-        Ok((s, amounts)) => {
-            out.push_str("account,assigned\n");
-            for (account, amount) in s.accounts.iter().zip(&amounts) {
-                out.push_str(&format!("{account},{amount}\n"));
-            }
-            if s.method == b'R' {
-                out.push_str("account,first,last,first2,last2\n");
-                for (account, [first, last, first2, last2]) in s.accounts.iter().zip(ranges(&s.shorts)) {
-                    out.push_str(&format!("{account},{first},{last},{first2},{last2}\n"));
-                }
-            }
-        }
-        Err(number) => out.push_str(&format!("refused\n{number}\n")),
+/// The text with the same series in the other form, or the first refusal of the change that applies, 4 left aside.
+fn changed(text: &[u8]) -> Result<Vec<u8>, u32> {
+    let series = read_text(text)?;
+    let list = series.list();
+    judge_list(series.method, list, list.numbers.len())?;
+    let (form, numbers) = match list.form {
+        Form::Shorts => (Form::LastNumbers, list.last_numbers()),
+        Form::LastNumbers => (Form::Shorts, list.shorts()),
+    };
+    Ok(text_of(series.method, series.exercised, series.draw, List { form, numbers: &numbers, ..list }))
+}
+
+/// The changing call; `room` is the length of its output.
+pub fn change(text: &[u8], room: usize) -> Result<Vec<u8>, u32> {
+    let changed = changed(text)?;
+    first(&[(4, room < changed.len())])?;
+    Ok(changed)
+}
+
+/// What a program prints for a refusal.
+fn refused(number: u32) -> Vec<u8> {
+    format!("refused\n{number}\n").into_bytes()
+}
+
+/// The bytes that the program `change_form` prints for a text.
+pub fn printed_change(text: &[u8]) -> Vec<u8> {
+    changed(text).unwrap_or_else(refused)
+}
+
+fn assigned(text: &[u8]) -> Result<Vec<u8>, u32> {
+    let series = read_text(text)?;
+    let list = series.list();
+    let found = allocate(series.method, list, series.exercised, series.draw, list.numbers.len())?;
+    let mut out = String::from("account,assigned\n");
+    for (account, amount) in list.accounts.iter().zip(&found.amounts) {
+        out.push_str(&format!("{account},{amount}\n"));
     }
-    out.into_bytes()
+    if series.method == b'R' {
+        out.push_str("account,first,last,first2,last2\n");
+        for (account, [first, last, first2, last2]) in list.accounts.iter().zip(ranges(&list.shorts())) {
+            out.push_str(&format!("{account},{first},{last},{first2},{last2}\n"));
+        }
+    }
+    Ok(out.into_bytes())
+}
+
+/// The bytes that the program `assign` prints for a text.
+pub fn printed(text: &[u8]) -> Vec<u8> {
+    assigned(text).unwrap_or_else(refused)
 }
 
 /// The responding call; `room` is the length of its output.

@@ -92,7 +92,7 @@ fn case_m_in_full() {
     assert_eq!((series.method, series.exercised, series.draw), (b'L', 13, 4855));
     assert_eq!(series.codes, [1, 2, 3, 4, 5]);
     assert_eq!(series.accounts, [1, 2, 3, 4, 5]);
-    assert_eq!(series.shorts, [5, 8, 2, 10, 11]);
+    assert_eq!((series.form, &series.numbers[..]), (Form::Shorts, &SHORTS[..]));
     assert_eq!(write(b'L', 13, 4855, series.list(), text.len()), Ok(text.to_vec()));
 }
 
@@ -256,6 +256,8 @@ fn allocating_refusals_in_order() {
 
 const NAMES: &str = "account,short\n";
 const LONG_NAMES: &str = "code,account,short\n";
+const LAST_NAMES: &str = "account,last\n";
+const LONG_LAST_NAMES: &str = "code,account,last\n";
 
 fn text(line_2: &str, line_3: &str, rest: &str) -> Vec<u8> {
     format!("method,exercised,draw\n{line_2}{line_3}{rest}").into_bytes()
@@ -296,11 +298,15 @@ fn reading_refusals_in_order() {
         assert_eq!(read_text(&text(line, "no names", "")), Err(number), "{line:?}");
     }
     for line in ["", "\n", "account,short", "account,short\r\n", "account,shorts\n", "1,1\n", " account,short\n"] {
-        assert_eq!(read_text(&text("W,1,1\n", line, "")), Err(12), "{line:?}");
-        assert_eq!(read_text(&text("W,1,1\n", &format!("code,{line}"), "")), Err(12), "code,{line:?}");
+        for line in [line.to_string(), line.replace("short", "last"), line.replace("short", "Last")] {
+            assert_eq!(read_text(&text("W,1,1\n", &line, "")), Err(12), "{line:?}");
+            assert_eq!(read_text(&text("W,1,1\n", &format!("code,{line}"), "")), Err(12), "code,{line:?}");
+        }
     }
     for line in ["code,account\n", "account,code,short\n", "codes,account,short\n", "code,code,account,short\n"] {
-        assert_eq!(read_text(&text("W,1,1\n", line, "")), Err(12), "{line:?}");
+        for line in [line.to_string(), line.replace("short", "last")] {
+            assert_eq!(read_text(&text("W,1,1\n", &line, "")), Err(12), "{line:?}");
+        }
     }
     for line in ["\n", "1,1", "1\n", "1,1,1\n", "1,\n", ",1\n", "1,1\n\n", "1,1\r\n", "a\n", "1,4294967296\n"] {
         assert_eq!(read_text(&text("W,1,1\n", good, line)), Err(13), "{line:?}");
@@ -321,7 +327,7 @@ fn reading_refusals_in_order() {
         assert_eq!(read(&one, rooms), Err(4), "{rooms:?}");
     }
     for rooms in [[1, 1, 1], [4, 2, 3]] {
-        assert_eq!(read(&one, rooms).map(|s| s.shorts.len()), Ok(1), "{rooms:?}");
+        assert_eq!(read(&one, rooms).map(|s| s.numbers.len()), Ok(1), "{rooms:?}");
     }
     assert_eq!(read(&text("W,1,1\n", good, "1,1\nx\n"), [0; 3]), Err(13));
 }
@@ -337,8 +343,8 @@ fn read_in_each_field(number: &str) -> [Result<u32, u32>; 9] {
         let long_form = text(&format!("W,{exercised_2},{draw_2}\n"), LONG_NAMES, &lines);
         let (a, b) = (read_text(&short_form)?, read_text(&long_form)?);
         assert_eq!(a.codes, a.accounts);
-        let found = [a.exercised, a.draw, a.accounts[0], a.shorts[0]];
-        Ok([&found[..], &[b.exercised, b.draw, b.codes[0], b.accounts[0], b.shorts[0]]].concat()[field])
+        let found = [a.exercised, a.draw, a.accounts[0], a.numbers[0]];
+        Ok([&found[..], &[b.exercised, b.draw, b.codes[0], b.accounts[0], b.numbers[0]]].concat()[field])
     })
 }
 
@@ -392,7 +398,7 @@ fn two_spellings_are_one_account() {
         assert_eq!(found, format!("refused\n{number}\n").into_bytes(), "{lines:?}");
     }
     let series = read_text(&text("W,1,1\n", "account,short\n", "1,3\n01,4\n")).unwrap();
-    assert_eq!((series.accounts, series.shorts), (vec![1, 1], vec![3, 4]));
+    assert_eq!((series.accounts, series.numbers), (vec![1, 1], vec![3, 4]));
 }
 
 #[test]
@@ -415,34 +421,45 @@ fn spelling_changes_nothing_that_is_written() {
 #[test]
 fn writing_refusals_in_order() {
     let zeros = vec![0; 1_025];
-    let written = |method, [codes, accounts, shorts]: [usize; 3], room| {
-        let list = List { codes: &zeros[..codes], accounts: &zeros[..accounts], shorts: &zeros[..shorts] };
-        write(method, 0, 0, list, room)
-    };
-    assert_eq!(written(b'w', [1, 1, 0], 0), Err(14));
-    for lengths in [[1_024, 1_025, 1_025], [1_025, 1_024, 1_025], [1_025, 1_025, 1_024], [0, 1, 1], [0, 1, 2]] {
-        assert_eq!(written(b'P', lengths, 0), Err(1), "{lengths:?}");
+    for form in FORMS {
+        let written = |method, [codes, accounts, numbers]: [usize; 3], room| {
+            let list = List { form, codes: &zeros[..codes], accounts: &zeros[..accounts], numbers: &zeros[..numbers] };
+            write(method, 0, 0, list, room)
+        };
+        assert_eq!(written(b'w', [1, 1, 0], 0), Err(14));
+        for lengths in [[1_024, 1_025, 1_025], [1_025, 1_024, 1_025], [1_025, 1_025, 1_024], [0, 1, 1], [0, 1, 2]] {
+            assert_eq!(written(b'P', lengths, 0), Err(1), "{lengths:?}");
+        }
+        assert_eq!(written(b'W', [1_025; 3], 0), Err(15));
+        assert_eq!(written(b'W', [1_024; 3], 0), Err(4));
     }
-    assert_eq!(written(b'W', [1_025; 3], 0), Err(15));
-    assert_eq!(written(b'W', [1_024; 3], 0), Err(4));
-    let none = List::by_account(&[], &[]);
-    let short = write(b'P', 0, u32::MAX, none, 100).unwrap();
-    assert_eq!(short, b"method,exercised,draw\nP,0,4294967295\naccount,short\n");
-    assert_eq!(write(b'P', 0, u32::MAX, none, short.len()), Ok(short.clone()));
-    assert_eq!(write(b'P', 0, u32::MAX, none, short.len() - 1), Err(4));
+    for (form, line_3) in [(Form::Shorts, "account,short\n"), (Form::LastNumbers, "account,last\n")] {
+        let none = List { form, ..List::by_account(&[], &[]) };
+        let written = write(b'P', 0, u32::MAX, none, 100).unwrap();
+        assert_eq!(written, text("P,0,4294967295\n", line_3, ""));
+        assert_eq!(write(b'P', 0, u32::MAX, none, written.len()), Ok(written.clone()));
+        assert_eq!(write(b'P', 0, u32::MAX, none, written.len() - 1), Err(4));
+    }
 }
 
 #[test]
 fn writing_at_most_32_768_bytes() {
-    // The names lines and line 2 have 47 bytes, each further line 32, and the last one what is left.
-    let mut shorts = vec![100_000_000; 1_022];
+    // The names lines and line 2 have 47 bytes, with last numbers 46; each further line 32, the last one what is left.
+    let mut numbers = vec![100_000_000; 1_022];
     let (mut codes, mut accounts) = (vec![u32::MAX; 1_022], vec![u32::MAX - 1; 1_022]);
-    shorts.push(1);
+    numbers.push(1);
     codes.push(1);
-    accounts.push(200_000);
-    for (last, length) in [(1_000_000, 32_768), (10_000_000, 32_769), (u32::MAX, 32_771)] {
+    for (form, account, last, length) in [
+        (Form::Shorts, 200_000, 1_000_000, 32_768),
+        (Form::Shorts, 200_000, 10_000_000, 32_769),
+        (Form::Shorts, 200_000, u32::MAX, 32_771),
+        (Form::LastNumbers, 200_000, 10_000_000, 32_768),
+        (Form::LastNumbers, 2_000_000, 10_000_000, 32_769),
+    ] {
+        accounts.resize(1_022, 0);
+        accounts.push(account);
         codes[1_022] = last;
-        let list = List { codes: &codes, accounts: &accounts, shorts: &shorts };
+        let list = List { form, codes: &codes, accounts: &accounts, numbers: &numbers };
         for room in [0, 32_767, 32_768, 32_771, 40_000] {
             let found = write(b'W', 0, 0, list, room).map(|text| text.len());
             let expected = if room < 32_768 { Err(4) } else { Ok(length) };
@@ -470,7 +487,7 @@ fn printed_refusals() {
 }
 
 // A, with the accounts in another order than the codes.
-const CODED: List = List { codes: &[3, 7, 9], accounts: &[20, 4, 11], shorts: &[60, 200, 95] };
+const CODED: List = List { form: Form::Shorts, codes: &[3, 7, 9], accounts: &[20, 4, 11], numbers: &[60, 200, 95] };
 const CODED_TEXT: &str = "method,exercised,draw\nW,175,1\ncode,account,short\n3,20,60\n7,4,200\n9,11,95\n";
 
 #[test]
@@ -484,7 +501,7 @@ fn the_wheel_goes_by_code() {
 
 // The number that W meets with one contract exercised of a list, and P, L and R with the same.
 fn met(codes: &[u32], accounts: &[u32], shorts: &[u32]) -> [u32; 2] {
-    let list = List { codes, accounts, shorts };
+    let list = List { form: Form::Shorts, codes, accounts, numbers: shorts };
     let [w, p, l, r] = METHODS.map(|method| allocate(method, list, 1, 1, 9).map_or_else(|number| number, |_| 0));
     assert_eq!((l, r), (p, p), "{list:?}");
     [w, p]
@@ -531,7 +548,7 @@ fn codes_and_accounts_are_judged() {
 fn texts_with_codes() {
     let series = read(CODED_TEXT.as_bytes(), [3; 3]).unwrap();
     assert_eq!((&series.codes[..], &series.accounts[..]), (CODED.codes, CODED.accounts));
-    assert_eq!((series.method, &series.shorts[..]), (b'W', CODED.shorts));
+    assert_eq!((series.method, &series.numbers[..]), (b'W', CODED.numbers));
     assert_eq!(write(b'W', 175, 1, CODED, CODED_TEXT.len()).unwrap(), CODED_TEXT.as_bytes());
     assert_eq!(write(b'W', 175, 1, CODED, CODED_TEXT.len() - 1), Err(4));
     assert_eq!(printed(CODED_TEXT.as_bytes()), b"account,assigned\n20,35\n4,97\n11,43\n");
@@ -656,4 +673,227 @@ fn ranges_are_printed_under_r_alone() {
     for (line, lines, number) in refused {
         assert_eq!(printed(&text(line, NAMES, lines)), format!("refused\n{number}\n").as_bytes(), "{line}");
     }
+}
+
+// The shorts of M and N as last numbers.
+const LASTS: [u32; 5] = [5, 13, 15, 25, 36];
+
+fn by_last(accounts: &[u32], lasts: &[u32], exercised: u32, draw: u32) -> [Result<Allocation, u32>; 4] {
+    let list = List { form: Form::LastNumbers, ..List::by_account(accounts, lasts) };
+    METHODS.map(|method| allocate(method, list, exercised, draw, lasts.len()))
+}
+
+#[test]
+fn shorts_and_last_numbers() {
+    for (shorts, lasts) in [
+        (&SHORTS[..], &LASTS[..]),
+        (&[], &[]),
+        (&[1], &[1]),
+        (&[10_000_000], &[10_000_000]),
+        (&[1, 9_999_998, 1], &[1, 9_999_999, 10_000_000]),
+    ] {
+        let accounts = upward(shorts.len());
+        let [by_shorts, by_lasts] = [(Form::Shorts, shorts), (Form::LastNumbers, lasts)]
+            .map(|(form, numbers)| List { form, ..List::by_account(&accounts, numbers) });
+        for list in [by_shorts, by_lasts] {
+            assert_eq!((&list.shorts()[..], &list.last_numbers()[..]), (shorts, lasts));
+        }
+        // The last contract of each first range.
+        assert_eq!(ranges(shorts).iter().map(|range| range[1]).collect::<Vec<_>>(), lasts);
+    }
+}
+
+#[test]
+fn both_forms_allocate_alike() {
+    for (_, shorts, exercised, draw, ..) in KNOWN {
+        let accounts = upward(shorts.len());
+        let lasts = List::by_account(&accounts, shorts).last_numbers();
+        for (exercised, draw) in [(exercised, draw), (0, 1), (1, 0), (10_000_000, 1), (lasts[lasts.len() - 1], 0)] {
+            let expected = METHODS.map(|method| answer(method, shorts, exercised, draw));
+            assert_eq!(by_last(&accounts, &lasts, exercised, draw), expected, "{lasts:?} {exercised} {draw}");
+        }
+    }
+}
+
+// 20 stands where 6 stood, after 5 and 19; 7 goes by the last number.
+#[test]
+fn last_numbers_are_judged() {
+    for (accounts, lasts, number) in [
+        (&[1, 2, 3][..], &[0, 1, 2][..], 20),
+        (&[1, 2, 3], &[5, 5, 6], 20),
+        (&[1, 2, 3], &[5, 6, 6], 20),
+        (&[1, 2, 3], &[5, 4, 6], 20),
+        (&[1, 2, 3], &[5, 6, 0], 20),
+        (&[1, 2, 3], &[5, 6, 5], 20),
+        (&[1, 2, 3], &[10_000_001, 0, 0], 7),
+        (&[1, 2, 3], &[1, 10_000_001, 0], 7),
+        (&[1, 2, 3], &[9_999_999, 10_000_000, 10_000_001], 7),
+        (&[1, 2, 3], &[9_999_999, 10_000_000, u32::MAX], 7),
+        (&[1, 2, 3], &[9_999_999, 10_000_000, 10_000_000], 20),
+        (&[1, 2, 3], &[9_999_999, 10_000_000, 9_999_999], 20),
+        // Several in one position, and an earlier position first.
+        (&[0], &[0], 5),
+        (&[0], &[u32::MAX], 5),
+        (&[2, 2], &[5, 5], 5),
+        (&[2, 1], &[5, u32::MAX], 5),
+        (&[2, 1], &[0, 5], 20),
+        (&[2, 1], &[10_000_001, 5], 7),
+        (&[], &[], 3),
+        (&[1], &[], 1),
+        (&[], &[0], 1),
+    ] {
+        assert_eq!(by_last(accounts, lasts, 0, 0), [(); 4].map(|_| Err(number)), "{accounts:?} {lasts:?}");
+    }
+    assert_eq!(by_last(&[1, 2], &[9_999_999, 10_000_000], 0, 0), [(); 4].map(|_| Err(8)));
+    assert_eq!(by_last(&[1, 2], &[9_999_999, 10_000_000], 10_000_001, 0), [(); 4].map(|_| Err(9)));
+    let by_code = |accounts, lasts| {
+        let list = List { form: Form::LastNumbers, codes: &[3, 7, 9], accounts, numbers: lasts };
+        allocate(b'W', list, 1, 1, 3).map(|found| found.total)
+    };
+    assert_eq!(by_code(&[20, 4, 11], &[60, 260, 355]), Ok(355));
+    assert_eq!(by_code(&[20, 4, 20], &[60, 260, 260]), Err(19));
+    assert_eq!(by_code(&[20, 4, 20], &[60, 60, 70]), Err(20));
+    assert_eq!(by_code(&[20, 4, 11], &[60, 260, 259]), Err(20));
+}
+
+#[test]
+fn texts_of_last_numbers() {
+    for (line_3, codes) in [(LAST_NAMES, [20, 4, 11]), (LONG_LAST_NAMES, [3, 7, 9])] {
+        let line = |(code, rest)| if line_3 == LAST_NAMES { format!("{rest}\n") } else { format!("{code},{rest}\n") };
+        let lines: String = codes.into_iter().zip(["20,60", "4,060", "11,0"]).map(line).collect();
+        let spelled = text("W,0,4294967295\n", line_3, &lines);
+        let series = read(&spelled, [3; 3]).unwrap();
+        assert_eq!((series.form, &series.codes[..]), (Form::LastNumbers, &codes[..]));
+        assert_eq!((&series.accounts[..], &series.numbers[..]), (&[20, 4, 11][..], &[60, 60, 0][..]));
+        let written = write(b'W', 0, u32::MAX, series.list(), spelled.len() - 1).unwrap();
+        assert_eq!(String::from_utf8_lossy(&written), String::from_utf8_lossy(&spelled).replace(",060\n", ",60\n"));
+    }
+    for (lines, number) in [("1,1\n", 13), ("1,1,1,1\n", 13), ("", 3), ("1,0,0\n", 19), ("1,5,1\n2,6,1\n", 20)] {
+        let found = printed(&text("W,1,1\n", LONG_LAST_NAMES, lines));
+        assert_eq!(found, format!("refused\n{number}\n").into_bytes(), "{lines:?}");
+    }
+    let most = "0,0\n".repeat(1_024);
+    assert_eq!(read_text(&text("W,1,1\n", LAST_NAMES, &most)).unwrap().numbers, [0; 1_024]);
+    assert_eq!(read_text(&text("W,1,1\n", LAST_NAMES, &format!("{most}x"))), Err(15));
+}
+
+const M_LINES: &str = "1,5\n2,8\n3,2\n4,10\n5,11\n";
+const M_LAST_LINES: &str = "1,5\n2,13\n3,15\n4,25\n5,36\n";
+
+#[test]
+fn the_source_table_there_and_back() {
+    let [shorts, lasts] = [(NAMES, M_LINES), (LAST_NAMES, M_LAST_LINES)].map(|(n, l)| text("L,13,4855\n", n, l));
+    for (from, to) in [(&shorts, &lasts), (&lasts, &shorts)] {
+        assert_eq!(change(from, to.len()).as_ref(), Ok(to));
+        assert_eq!(change(from, to.len() - 1), Err(4));
+        assert_eq!(printed_change(from), *to);
+        assert_eq!(printed(from), b"account,assigned\n1,0\n2,0\n3,0\n4,8\n5,5\n");
+    }
+}
+
+// The exhibit as last numbers prints the same ranges.
+#[test]
+fn ranges_from_last_numbers() {
+    let accounts = upward(10);
+    let shorts = write(b'R', 50, 395, List::by_account(&accounts, &EXHIBIT), MOST_BYTES).unwrap();
+    let lasts = change(&shorts, MOST_CHANGED).unwrap();
+    assert!(lasts.ends_with(b"account,last\n1,1\n2,51\n3,151\n4,153\n5,154\n6,155\n7,1155\n8,1156\n9,1166\n10,1186\n"));
+    assert_eq!(printed(&lasts), printed(&shorts));
+    assert!(printed(&lasts).ends_with(b"10,1167,1186,2353,2372\n"));
+}
+
+#[test]
+fn changes_with_codes_and_zeros() {
+    for (line_3, lines, other, changed) in [
+        (LONG_NAMES, "3,20,60\n7,4,200\n9,11,95\n", LONG_LAST_NAMES, "3,20,60\n7,4,260\n9,11,355\n"),
+        (LONG_LAST_NAMES, "3,20,60\n7,4,260\n9,11,355\n", LONG_NAMES, "3,20,60\n7,4,200\n9,11,95\n"),
+        // A column of codes that says nothing is left out, and no zero stands in front.
+        (LONG_NAMES, "3,03,1\n007,7,0000000002\n", LAST_NAMES, "3,1\n7,3\n"),
+        (LAST_NAMES, "0000000003,01\n7,010000000\n", NAMES, "3,1\n7,9999999\n"),
+        (NAMES, "4294967294,9999999\n4294967295,1\n", LAST_NAMES, "4294967294,9999999\n4294967295,10000000\n"),
+    ] {
+        let found = printed_change(&text("W,09,00\n", line_3, lines));
+        assert_eq!(String::from_utf8_lossy(&found), String::from_utf8(text("W,9,0\n", other, changed)).unwrap());
+        let again = printed_change(&found);
+        assert_eq!(change(&again, found.len()), Ok(found));
+    }
+}
+
+// S and the draw are not judged.
+#[test]
+fn changes_of_any_terms() {
+    for method in ["W", "P", "L", "R"] {
+        for (exercised, draw) in [(0, 0), (1, 0), (36, 37), (37, 10_001), (u32::MAX, u32::MAX)] {
+            let line_2 = format!("{method},{exercised},{draw}\n");
+            let [shorts, lasts] = [(NAMES, M_LINES), (LAST_NAMES, M_LAST_LINES)].map(|(n, l)| text(&line_2, n, l));
+            assert_eq!((printed_change(&shorts), printed_change(&lasts)), (lasts, shorts), "{line_2}");
+        }
+    }
+}
+
+#[test]
+fn refused_changes() {
+    for (whole, number) in [
+        (b"".to_vec(), 12),
+        (vec![b'x'; 32_769], 11),
+        (text("X,1,1\n", NAMES, "1,1\n"), 14),
+        (text("W,1\n", NAMES, "1,1\n"), 13),
+        (text("W,1,1\n", "account,lasts\n", "1,1\n"), 12),
+        (text("W,1,1\n", LAST_NAMES, "1,1\n2\n"), 13),
+        (text("W,1,1\n", LAST_NAMES, &"1,1\n".repeat(1_025)), 15),
+    ] {
+        for room in [0, 40_000] {
+            assert_eq!(change(&whole, room), Err(number));
+        }
+    }
+    // By shorts, and by last numbers.
+    for (line_2, lines, of_shorts, of_lasts) in [
+        ("L,1,1\n", "", 3, 3),
+        ("L,1,1\n", "0,0\n", 5, 5),
+        ("L,1,1\n", "1,0\n", 6, 20),
+        ("L,1,1\n", "2,5\n1,5\n", 5, 5),
+        ("L,1,1\n", "1,5\n2,5\n", 0, 20),
+        ("L,1,1\n", "1,5\n2,0\n", 6, 20),
+        ("L,1,1\n", "1,10000001\n2,0\n", 7, 7),
+        ("L,1,1\n", "1,1\n2,10000000\n", 7, 0),
+        ("P,1,1\n", "1,1\n2,10000001\n", 7, 7),
+        ("R,1,1\n", "1,1\n2,4294967295\n", 7, 7),
+    ] {
+        for (line_3, number) in [(NAMES, of_shorts), (LAST_NAMES, of_lasts)] {
+            let whole = text(line_2, line_3, lines);
+            assert_eq!(change(&whole, 40_000).err().unwrap_or(0), number, "{line_3}{lines}");
+            assert_eq!(change(&whole, 10), Err(if number == 0 { 4 } else { number }), "{line_3}{lines}");
+        }
+    }
+    // By the text's method: accounts that fall and codes that rise, and the other way round.
+    for names in [LONG_NAMES, LONG_LAST_NAMES] {
+        for (lines, of_w, of_others) in [
+            ("1,9,1\n2,8,3\n", 0, 5),
+            ("2,8,1\n1,9,3\n", 5, 0),
+            ("1,9,1\n2,9,0\n", 19, 5),
+            ("1,9,1\n2,0,0\n", 19, 5),
+            ("0,9,1\n", 5, 0),
+        ] {
+            for method in METHODS {
+                let found = change(&text(&format!("{},1,1\n", char::from(method)), names, lines), MOST_CHANGED);
+                let expected = if method == b'W' { of_w } else { of_others };
+                assert_eq!(found.err().unwrap_or(0), expected, "{method} {names}{lines}");
+            }
+        }
+    }
+}
+
+// Ten digits in each code and account, in S and the draw; of the last numbers only T can have eight.
+#[test]
+fn the_longest_changed_text() {
+    assert_eq!(MOST_CHANGED, 31_809);
+    let codes: Vec<u32> = (u32::MAX - 1_023..=u32::MAX).collect();
+    let accounts: Vec<u32> = codes.iter().rev().copied().collect();
+    let mut shorts = vec![1; 1_024];
+    (shorts[0], shorts[1_023]) = (1_000_000, 8_998_978);
+    let list = List { form: Form::Shorts, codes: &codes, accounts: &accounts, numbers: &shorts };
+    let whole = write(b'W', u32::MAX, u32::MAX, list, MOST_BYTES).unwrap();
+    let changed = change(&whole, MOST_CHANGED).unwrap();
+    assert_eq!(changed.len(), 22 + 24 + 18 + 1_023 * 30 + 31);
+    assert_eq!(change(&changed, whole.len()), Ok(whole));
 }
