@@ -4,7 +4,7 @@
  * Each function but dilbreth_explain answers 0, or the number of the refusal that
  * it met:
  *
- *    1  codes, accounts and shorts differ in length
+ *    1  codes, accounts and numbers differ in length
  *    2  there are more than 4,096 positions
  *    3  there are no positions
  *    4  an output is too short
@@ -23,6 +23,7 @@
  *   17  closing purchases exceed short plus opening sales
  *   18  more is exercised than the day's limit
  *   19  an account is 0 or stands earlier in the list
+ *   20  a last number is 0 or not above the one before
  *
  * On a refusal nothing else is written: every list, every byte of a text and
  * every number behind a pointer is as it was before the call.
@@ -44,7 +45,7 @@ extern "C" {
 
 /* Raised where a signature, a constant or a length that is always enough changes, or a
    call or a constant is new; 1 was the first delivery's. */
-#define DILBRETH_VERSION 5
+#define DILBRETH_VERSION 6
 
 /* The methods. */
 #define DILBRETH_WHEEL ((uint8_t)'W')
@@ -52,14 +53,24 @@ extern "C" {
 #define DILBRETH_LOTTERY ((uint8_t)'L')
 #define DILBRETH_REMAINDER_DRAW ((uint8_t)'R')
 
+/* The forms of a list: what the number of a position is. In the form of shorts it is the
+   position's short contracts. In the form of last numbers it is its last sequence number,
+   the contracts being numbered 1 to T in list order: the position's shorts are the
+   difference to the number before it (at the first position to 0), and T is the last
+   number of all. Any number but 0 stands for last numbers. */
+#define DILBRETH_SHORTS 0
+#define DILBRETH_LAST_NUMBERS 1
+
 /*
- * Assigns the exercised contracts of one series to its short positions.
+ * Assigns the exercised contracts of one series to its short positions. A list gets the
+ * same answer in both forms, but for 6 and 20.
  * Refuses 14 first, for a method that is none of the four, then 1 to 4, then, for
- * each position in turn, 5, 19 (under W only), 6 and 7, then 8, 9 and, under W and L
- * only, 10.
+ * each position in turn, 5, 19 (under W only), 6 (in the form of last numbers 20 in its
+ * place) and 7, then 8, 9 and, under W and L only, 10.
  *
  * method        'W' the wheel, 'P' pro rata, 'L' the starting number, 'R' the
  *               remainder draw
+ * form          0 shorts; any other number last numbers
  * codes         the identification code of each position. Under W the list stands in
  *               the order of its codes, 1 or more, rising. Under P, L and R no code is
  *               looked at
@@ -68,9 +79,10 @@ extern "C" {
  *               under W each other than all earlier ones. A caller without codes hands
  *               the accounts as codes too
  * accounts_len  the length of accounts, 1 to 4,096
- * shorts        the short contracts of each position, 1 or more; their sum is T,
- *               at most 10,000,000
- * shorts_len    the length of shorts, equal to accounts_len
+ * numbers       the short contracts of each position, 1 or more; their sum is T. Or the
+ *               last number of each position, 1 or more, rising; the last of them is T.
+ *               T is at most 10,000,000
+ * numbers_len   the length of numbers, equal to accounts_len
  * exercised     S, the contracts exercised, 1 to T
  * draw          W: the starting place, 1 to T. L: 1 to 10,000 ten-thousandths.
  *               P: any number; it decides who is served among equal decimal parts.
@@ -85,19 +97,19 @@ extern "C" {
  *               for P, the contracts of round two; for L and R, the starting place
  *               (0 where S equals T or the list has one position)
  */
-uint32_t dilbreth_allocate(uint8_t method,
+uint32_t dilbreth_allocate(uint8_t method, uint32_t form,
                            const uint32_t *codes, size_t codes_len,
                            const uint32_t *accounts, size_t accounts_len,
-                           const uint32_t *shorts, size_t shorts_len,
+                           const uint32_t *numbers, size_t numbers_len,
                            uint32_t exercised, uint32_t draw,
                            uint32_t *amounts, size_t amounts_len,
                            uint32_t *total, uint32_t *further);
 
 /*
  * Reads the text of a series. Refuses 11 to 15 as the text's lines meet them,
- * and last 4 where codes, accounts or shorts is shorter than the positions of the text.
- * A number has one to ten digits, leading zeros allowed; more are 13. The series
- * itself is not judged.
+ * and last 4 where codes, accounts or numbers is shorter than the positions of the text.
+ * Line 3 ends with `short` or with `last`, which gives the form. A number has one to ten
+ * digits, leading zeros allowed; more are 13. The series itself is not judged.
  *
  * text          the bytes of the text
  * text_len      its length, at most 32,768
@@ -106,56 +118,79 @@ uint32_t dilbreth_allocate(uint8_t method,
  * codes_len     the length of codes (1,024 is always enough)
  * accounts      receives the account of each position; elements past them are kept
  * accounts_len  the length of accounts (1,024 is always enough)
- * shorts        receives the shorts of each position; elements past them are kept
- * shorts_len    the length of shorts (1,024 is always enough)
+ * numbers       receives the shorts or last number of each position; elements past them
+ *               are kept
+ * numbers_len   the length of numbers (1,024 is always enough)
  * method        receives 'W', 'P', 'L' or 'R'
  * exercised     receives S
  * draw          receives the draw
+ * form          receives 0 for shorts, 1 for last numbers
  * positions     receives the number of positions, 0 for a text without any
  */
 uint32_t dilbreth_read(const uint8_t *text, size_t text_len,
                        uint32_t *codes, size_t codes_len,
                        uint32_t *accounts, size_t accounts_len,
-                       uint32_t *shorts, size_t shorts_len,
+                       uint32_t *numbers, size_t numbers_len,
                        uint8_t *method, uint32_t *exercised, uint32_t *draw,
-                       size_t *positions);
+                       uint32_t *form, size_t *positions);
 
 /*
  * Writes the text of a series. Refuses 14 first, for a method that is none of
  * the four, then 1, then 15 for more than 1,024 positions, then 11 for a text of more
  * than 32,768 bytes, then 4 where text is shorter than what there is to write. Codes,
- * accounts, shorts, S and draw are not judged. Codes are written where some code is not
+ * accounts, numbers, S and draw are not judged. Codes are written where some code is not
  * its account, else line 3 has no code. No number is written with leading zeros.
  *
  * method        'W', 'P', 'L' or 'R'
  * exercised     S
  * draw          the draw
+ * form          0 shorts; any other number last numbers, and line 3 ends with `last`
  * codes         the code of each position
  * codes_len     the length of codes, equal to accounts_len
  * accounts      the account of each position
  * accounts_len  the length of accounts, at most 1,024
- * shorts        the shorts of each position
- * shorts_len    the length of shorts, equal to accounts_len
+ * numbers       the shorts or last number of each position
+ * numbers_len   the length of numbers, equal to accounts_len
  * text          receives the bytes of the text; bytes past them are kept
  * text_len      the length of text (32,768 is always enough)
  * written       receives the number of bytes written
  */
-uint32_t dilbreth_write(uint8_t method, uint32_t exercised, uint32_t draw,
+uint32_t dilbreth_write(uint8_t method, uint32_t exercised, uint32_t draw, uint32_t form,
                         const uint32_t *codes, size_t codes_len,
                         const uint32_t *accounts, size_t accounts_len,
-                        const uint32_t *shorts, size_t shorts_len,
+                        const uint32_t *numbers, size_t numbers_len,
                         uint8_t *text, size_t text_len,
                         size_t *written);
+
+/*
+ * Changes the text of a series into its text in the other form, with the same method, S,
+ * draw, codes and accounts. Refuses 11 to 15 as reading does, then, for the list under the
+ * text's method, 3 and, for each position in turn, 5, 19 (under W only), 6 or 20 (by the
+ * text's form) and 7, then 4 where output is shorter than the changed text. S and draw are
+ * not judged. The changed text is written as dilbreth_write writes it and can be changed
+ * back: that gives the same bytes for a text that the library wrote, and the same series
+ * for any other.
+ *
+ * text          the bytes of the text, in either form
+ * text_len      its length, at most 32,768
+ * output        receives the bytes of the changed text; bytes past them are kept
+ * output_len    the length of output (31,809 is always enough)
+ * written       receives the number of bytes written
+ */
+uint32_t dilbreth_change(const uint8_t *text, size_t text_len,
+                         uint8_t *output, size_t output_len,
+                         size_t *written);
 
 /*
  * Writes what the program `assign` prints for a text: the line `account,assigned`
  * and a line for each position, or, for a text or series that is refused, the line
  * `refused` and a line with the number. Under R the amounts are followed by the line
  * `account,first,last,first2,last2` and a line for each position with its two ranges:
- * the first and the last place of its contracts, then both plus T. The only refusal of
- * this call is 4, where output is shorter than all those bytes.
+ * the first and the last place of its contracts, then both plus T. A text and its change
+ * print the same. The only refusal of this call is 4, where output is shorter than all
+ * those bytes.
  *
- * text          the bytes of the text
+ * text          the bytes of the text, in either form
  * text_len      its length; more than 32,768 is answered in output by 11
  * output        receives the bytes; bytes past them are kept
  * output_len    the length of output (70,705 is always enough)

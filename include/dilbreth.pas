@@ -9,19 +9,21 @@ unit dilbreth;
 interface
 
 const
-  DILBRETH_VERSION = 5;
+  DILBRETH_VERSION = 6;
   DILBRETH_WHEEL = Ord('W');
   DILBRETH_PRO_RATA = Ord('P');
   DILBRETH_LOTTERY = Ord('L');
   DILBRETH_REMAINDER_DRAW = Ord('R');
+  DILBRETH_SHORTS = 0;
+  DILBRETH_LAST_NUMBERS = 1;
   DILBRETH_ORDINARY_DAY = 0;
   DILBRETH_FINAL_DAY = 1;
   DILBRETH_LONGEST_EXPLANATION = 50;
 
-function dilbreth_allocate(method: Byte;
+function dilbreth_allocate(method: Byte; form: LongWord;
   codes: PLongWord; codes_len: SizeUInt;
   accounts: PLongWord; accounts_len: SizeUInt;
-  shorts: PLongWord; shorts_len: SizeUInt;
+  numbers: PLongWord; numbers_len: SizeUInt;
   exercised, draw: LongWord;
   amounts: PLongWord; amounts_len: SizeUInt;
   total, further: PLongWord): LongWord; cdecl; external;
@@ -29,15 +31,19 @@ function dilbreth_allocate(method: Byte;
 function dilbreth_read(text: PByte; text_len: SizeUInt;
   codes: PLongWord; codes_len: SizeUInt;
   accounts: PLongWord; accounts_len: SizeUInt;
-  shorts: PLongWord; shorts_len: SizeUInt;
+  numbers: PLongWord; numbers_len: SizeUInt;
   method: PByte; exercised, draw: PLongWord;
-  positions: PSizeUInt): LongWord; cdecl; external;
+  form: PLongWord; positions: PSizeUInt): LongWord; cdecl; external;
 
-function dilbreth_write(method: Byte; exercised, draw: LongWord;
+function dilbreth_write(method: Byte; exercised, draw: LongWord; form: LongWord;
   codes: PLongWord; codes_len: SizeUInt;
   accounts: PLongWord; accounts_len: SizeUInt;
-  shorts: PLongWord; shorts_len: SizeUInt;
+  numbers: PLongWord; numbers_len: SizeUInt;
   text: PByte; text_len: SizeUInt;
+  written: PSizeUInt): LongWord; cdecl; external;
+
+function dilbreth_change(text: PByte; text_len: SizeUInt;
+  output: PByte; output_len: SizeUInt;
   written: PSizeUInt): LongWord; cdecl; external;
 
 function dilbreth_respond(text: PByte; text_len: SizeUInt;

@@ -9,9 +9,10 @@ use crate::ffi;
 #[allow(clippy::too_many_arguments)]
 pub fn allocate(
     method: u8,
+    form: u32,
     codes: &[u32],
     accounts: &[u32],
-    shorts: &[u32],
+    numbers: &[u32],
     exercised: u32,
     draw: u32,
     amounts: &mut [u32],
@@ -21,12 +22,13 @@ pub fn allocate(
     unsafe {
         ffi::dilbreth_allocate(
             method,
+            form,
             codes.as_ptr(),
             codes.len(),
             accounts.as_ptr(),
             accounts.len(),
-            shorts.as_ptr(),
-            shorts.len(),
+            numbers.as_ptr(),
+            numbers.len(),
             exercised,
             draw,
             amounts.as_mut_ptr(),
@@ -42,10 +44,11 @@ pub fn read(
     text: &[u8],
     codes: &mut [u32],
     accounts: &mut [u32],
-    shorts: &mut [u32],
+    numbers: &mut [u32],
     method: &mut u8,
     exercised: &mut u32,
     draw: &mut u32,
+    form: &mut u32,
     positions: &mut usize,
 ) -> u32 {
     unsafe {
@@ -56,11 +59,12 @@ pub fn read(
             codes.len(),
             accounts.as_mut_ptr(),
             accounts.len(),
-            shorts.as_mut_ptr(),
-            shorts.len(),
+            numbers.as_mut_ptr(),
+            numbers.len(),
             method,
             exercised,
             draw,
+            form,
             positions,
         )
     }
@@ -71,9 +75,10 @@ pub fn write(
     method: u8,
     exercised: u32,
     draw: u32,
+    form: u32,
     codes: &[u32],
     accounts: &[u32],
-    shorts: &[u32],
+    numbers: &[u32],
     text: &mut [u8],
     written: &mut usize,
 ) -> u32 {
@@ -82,17 +87,22 @@ pub fn write(
             method,
             exercised,
             draw,
+            form,
             codes.as_ptr(),
             codes.len(),
             accounts.as_ptr(),
             accounts.len(),
-            shorts.as_ptr(),
-            shorts.len(),
+            numbers.as_ptr(),
+            numbers.len(),
             text.as_mut_ptr(),
             text.len(),
             written,
         )
     }
+}
+
+pub fn change(text: &[u8], output: &mut [u8], written: &mut usize) -> u32 {
+    unsafe { ffi::dilbreth_change(text.as_ptr(), text.len(), output.as_mut_ptr(), output.len(), written) }
 }
 
 pub fn respond(text: &[u8], output: &mut [u8], written: &mut usize) -> u32 {

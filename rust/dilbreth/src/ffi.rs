@@ -3,12 +3,13 @@
 extern "C" {
     pub fn dilbreth_allocate(
         method: u8,
+        form: u32,
         codes: *const u32,
         codes_len: usize,
         accounts: *const u32,
         accounts_len: usize,
-        shorts: *const u32,
-        shorts_len: usize,
+        numbers: *const u32,
+        numbers_len: usize,
         exercised: u32,
         draw: u32,
         amounts: *mut u32,
@@ -24,11 +25,12 @@ extern "C" {
         codes_len: usize,
         accounts: *mut u32,
         accounts_len: usize,
-        shorts: *mut u32,
-        shorts_len: usize,
+        numbers: *mut u32,
+        numbers_len: usize,
         method: *mut u8,
         exercised: *mut u32,
         draw: *mut u32,
+        form: *mut u32,
         positions: *mut usize,
     ) -> u32;
 
@@ -36,14 +38,23 @@ extern "C" {
         method: u8,
         exercised: u32,
         draw: u32,
+        form: u32,
         codes: *const u32,
         codes_len: usize,
         accounts: *const u32,
         accounts_len: usize,
-        shorts: *const u32,
-        shorts_len: usize,
+        numbers: *const u32,
+        numbers_len: usize,
         text: *mut u8,
         text_len: usize,
+        written: *mut usize,
+    ) -> u32;
+
+    pub fn dilbreth_change(
+        text: *const u8,
+        text_len: usize,
+        output: *mut u8,
+        output_len: usize,
         written: *mut usize,
     ) -> u32;
 

@@ -6,7 +6,7 @@ mod ffi;
 use std::fmt;
 
 /// DILBRETH_VERSION of the header.
-pub const VERSION: u32 = 5;
+pub const VERSION: u32 = 6;
 
 #[derive(Clone, Copy, Debug, PartialEq, Eq)]
 pub enum Method {
@@ -33,6 +33,32 @@ impl Method {
             b'L' => Some(Method::Lottery),
             b'R' => Some(Method::RemainderDraw),
             _ => None,
+        }
+    }
+}
+
+/// What the number of a position is.
+#[derive(Clone, Copy, Debug, PartialEq, Eq)]
+pub enum Form {
+    /// Its short contracts.
+    Shorts,
+    /// Its last sequence number: its shorts are the difference to the number before it, from 0 on.
+    LastNumbers,
+}
+
+impl Form {
+    pub fn number(self) -> u32 {
+        match self {
+            Form::Shorts => 0,
+            Form::LastNumbers => 1,
+        }
+    }
+
+    /// Any number but 0 stands for last numbers.
+    pub fn from_number(number: u32) -> Form {
+        match number {
+            0 => Form::Shorts,
+            _ => Form::LastNumbers,
         }
     }
 }
@@ -89,6 +115,7 @@ pub struct Terms {
     pub method: Method,
     pub exercised: u32,
     pub draw: u32,
+    pub form: Form,
     pub positions: usize,
 }
 
@@ -127,42 +154,76 @@ pub struct AfterDay {
 /// Assigns the exercised contracts; `amounts` receives those of each position in list order. Under the wheel the codes
 /// rise and the accounts differ, in any order; the other methods have the accounts rise and look at no code, so `&[]`
 /// will do. The draw is not looked at where S equals T, nor for one position of the lottery or the remainder draw;
-/// otherwise the wheel and the lottery judge it, and pro rata and the remainder draw take any.
+/// otherwise the wheel and the lottery judge it, and pro rata and the remainder draw take any. A list gets the same
+/// answer in both forms, but for 6 and 20.
+#[allow(clippy::too_many_arguments)]
 pub fn allocate(
     method: Method,
+    form: Form,
     codes: &[u32],
     accounts: &[u32],
-    shorts: &[u32],
+    numbers: &[u32],
     exercised: u32,
     draw: u32,
     amounts: &mut [u32],
 ) -> Result<Allocated, Refused> {
     let (mut total, mut further) = (0, 0);
-    let method = method.byte();
-    accepted(calls::allocate(method, codes, accounts, shorts, exercised, draw, amounts, &mut total, &mut further))?;
+    accepted(calls::allocate(
+        method.byte(),
+        form.number(),
+        codes,
+        accounts,
+        numbers,
+        exercised,
+        draw,
+        amounts,
+        &mut total,
+        &mut further,
+    ))?;
     Ok(Allocated { total, further })
 }
 
 /// Reads the text of a series into the three lists. Where the text has no column of codes, each is the account number.
-pub fn read(text: &[u8], codes: &mut [u32], accounts: &mut [u32], shorts: &mut [u32]) -> Result<Terms, Refused> {
-    let (mut method, mut exercised, mut draw, mut positions) = (0, 0, 0, 0);
-    accepted(calls::read(text, codes, accounts, shorts, &mut method, &mut exercised, &mut draw, &mut positions))?;
+pub fn read(text: &[u8], codes: &mut [u32], accounts: &mut [u32], numbers: &mut [u32]) -> Result<Terms, Refused> {
+    let (mut method, mut exercised, mut draw, mut form, mut positions) = (0, 0, 0, 0, 0);
+    accepted(calls::read(
+        text,
+        codes,
+        accounts,
+        numbers,
+        &mut method,
+        &mut exercised,
+        &mut draw,
+        &mut form,
+        &mut positions,
+    ))?;
     let method = Method::from_byte(method).ok_or(Refused(14))?;
-    Ok(Terms { method, exercised, draw, positions })
+    Ok(Terms { method, exercised, draw, form: Form::from_number(form), positions })
 }
 
 /// Writes the text of a series; answers its length. The column of codes is left out where each is the account number.
+#[allow(clippy::too_many_arguments)]
 pub fn write(
     method: Method,
     exercised: u32,
     draw: u32,
+    form: Form,
     codes: &[u32],
     accounts: &[u32],
-    shorts: &[u32],
+    numbers: &[u32],
     text: &mut [u8],
 ) -> Result<usize, Refused> {
+    let (method, form) = (method.byte(), form.number());
     let mut written = 0;
-    accepted(calls::write(method.byte(), exercised, draw, codes, accounts, shorts, text, &mut written))?;
+    accepted(calls::write(method, exercised, draw, form, codes, accounts, numbers, text, &mut written))?;
+    Ok(written)
+}
+
+/// Changes the text of a series into its text in the other form; answers its length. The list is judged, S and draw are
+/// not. 31,809 bytes are always enough.
+pub fn change(text: &[u8], output: &mut [u8]) -> Result<usize, Refused> {
+    let mut written = 0;
+    accepted(calls::change(text, output, &mut written))?;
     Ok(written)
 }
 
