@@ -5,9 +5,9 @@ use std::process::Stdio;
 use std::time::{Duration, Instant};
 
 use compare::make::{self, Series};
-use compare::program::{self, TextFile};
+use compare::program::{Program, TextFile, PROGRAMS};
 use compare::random::Random;
-use compare::{days, plain, List};
+use compare::{days, library_form, plain, Form, List, FORMS};
 use dilbreth::calls;
 use reference::day::{Investor, MarketMaker};
 
@@ -52,6 +52,7 @@ fn time(nanoseconds: f64) -> String {
 
 struct Row {
     method: u8,
+    form: Form,
     positions: usize,
     total: u64,
     exercised: u32,
@@ -73,9 +74,11 @@ fn list(positions: usize, total: u64) -> Series {
 
 // One call of the library that is no refusal.
 fn library(method: u8, list: List, exercised: u32, draw: u32, amounts: &mut [u32]) {
-    let List { codes, accounts, shorts } = black_box(list);
+    let List { form, codes, accounts, numbers } = black_box(list);
+    let form = library_form(form).number();
     let (mut total, mut further) = (0, 0);
-    let number = calls::allocate(method, codes, accounts, shorts, exercised, draw, amounts, &mut total, &mut further);
+    let (t, f) = (&mut total, &mut further);
+    let number = calls::allocate(method, form, codes, accounts, numbers, exercised, draw, amounts, t, f);
     assert_eq!(black_box((number, total)).0, 0);
     black_box(amounts);
 }
@@ -87,7 +90,7 @@ fn by_method<const METHOD: u8>(list: List, exercised: u32, draw: u32, amounts: &
 }
 
 fn allocation(row: Row) {
-    let list = list(row.positions, row.total);
+    let list = list(row.positions, row.total).in_form(row.form);
     assert_eq!(list.total(), row.total);
     let (method, exercised) = (row.method, row.exercised);
     let list = list.list();
@@ -137,7 +140,11 @@ fn allocation(row: Row) {
         };
         println!(
             "{:<7}{:>10}{:>11}{:>11}{:>9}{:>12}{:>12}{:>12}{:>12}{:>12.4}{:>12.2}{:>12}",
-            char::from(method),
+            if row.form == Form::Shorts {
+                char::from(method).to_string()
+            } else {
+                format!("{} last", char::from(method))
+            },
             row.positions,
             row.total,
             exercised,
@@ -168,6 +175,7 @@ fn allocations() {
     println!(
         "3123/7919 they are spread as far as the shorts differ. With these T nothing remains of one position for round two."
     );
+    println!("'last': the list in the form of last numbers, else of shorts.");
     println!(
         "Cleared: the output was filled with 0 before each call, within the time; else it holds the last amounts."
     );
@@ -199,8 +207,15 @@ fn allocations() {
                     exercised.push((total * 3_123 / 7_919) as u32);
                 }
                 for exercised in exercised {
-                    allocation(Row { method, positions, total, exercised });
+                    allocation(Row { method, form: Form::Shorts, positions, total, exercised });
                 }
+                allocation(Row {
+                    method,
+                    form: Form::LastNumbers,
+                    positions,
+                    total,
+                    exercised: (total * 3 / 7) as u32,
+                });
             }
         }
     }
@@ -220,7 +235,7 @@ fn orders(positions: usize, random: &mut Random) -> [(&'static str, Vec<u32>); 5
 }
 
 fn distinct_row(order: &str, list: List, exercised: u32, name: &str) {
-    let mut amounts = [(); 2].map(|_| vec![0; list.shorts.len()]);
+    let mut amounts = [(); 2].map(|_| vec![0; list.numbers.len()]);
     let [ours, theirs] = &mut amounts;
     let mut call_library = || library(b'W', list, exercised, 1, ours);
     let mut call_plain = || {
@@ -230,7 +245,7 @@ fn distinct_row(order: &str, list: List, exercised: u32, name: &str) {
     let [ours, theirs] = medians([&mut call_library, &mut call_plain]);
     println!(
         "{order:<38}{:>10}{name:>8}{:>12}{:>12}{:>12.2}",
-        list.shorts.len(),
+        list.numbers.len(),
         time(ours),
         time(theirs),
         ours / theirs
@@ -252,7 +267,7 @@ fn distinct_accounts() {
         let made = list(positions, 1_000 * positions as u64);
         for (order, accounts) in orders(positions, &mut random) {
             let codes = make::upward(positions);
-            let list = List { codes: &codes, accounts: &accounts, shorts: &made.shorts };
+            let list = List { codes: &codes, ..List::by_account(&accounts, &made.numbers) };
             for (exercised, name) in [(made.total() as u32, "T"), (25, "25")] {
                 distinct_row(order, list, exercised, name);
             }
@@ -279,17 +294,17 @@ fn text_row(call: &str, positions: usize, bytes: usize, library: f64, plain: f64
 }
 
 fn reading(text: &[u8], positions: usize, note: &str) {
-    let [mut c, mut a, mut s, mut c2, mut a2, mut s2] = [(); 6].map(|_| vec![0; positions]);
+    let [mut c, mut a, mut n, mut c2, mut a2, mut n2] = [(); 6].map(|_| vec![0; positions]);
     let mut call_library = || {
-        let (mut method, mut exercised, mut draw, mut found) = (0, 0, 0, 0);
-        let (text, terms) = (black_box(text), (&mut method, &mut exercised, &mut draw));
-        let number = calls::read(text, &mut c, &mut a, &mut s, terms.0, terms.1, terms.2, &mut found);
+        let (mut method, mut exercised, mut draw, mut form, mut found) = (0, 0, 0, 0, 0);
+        let (text, terms) = (black_box(text), (&mut method, &mut exercised, &mut draw, &mut form));
+        let number = calls::read(text, &mut c, &mut a, &mut n, terms.0, terms.1, terms.2, terms.3, &mut found);
         assert_eq!(black_box((number, found)), (0, positions));
-        black_box((&c, &a, &s));
+        black_box((&c, &a, &n));
     };
     let mut call_plain = || {
-        black_box(plain::read(black_box(text), &mut c2, &mut a2, &mut s2).expect("a series"));
-        black_box((&c2, &a2, &s2));
+        black_box(plain::read(black_box(text), &mut c2, &mut a2, &mut n2).expect("a series"));
+        black_box((&c2, &a2, &n2));
     };
     let [library, best] = medians([&mut call_library, &mut call_plain]);
     text_row("read", positions, text.len(), library, best, note);
@@ -299,8 +314,9 @@ fn writing(list: List, length: usize, note: &str) {
     let (mut out, mut out2) = (vec![0; length], vec![0; length]);
     let mut call_library = || {
         let mut written = 0;
-        let List { codes, accounts, shorts } = black_box(list);
-        let number = calls::write(b'W', 500, 77, codes, accounts, shorts, &mut out, &mut written);
+        let List { form, codes, accounts, numbers } = black_box(list);
+        let form = library_form(form).number();
+        let number = calls::write(b'W', 500, 77, form, codes, accounts, numbers, &mut out, &mut written);
         assert_eq!(black_box((number, written)), (0, length));
         black_box(&out);
     };
@@ -327,6 +343,57 @@ fn responding(text: &[u8], positions: usize, note: &str) {
     text_row("respond", positions, text.len(), library, best, note);
 }
 
+type Change = fn(&[u8], &mut [u8]) -> Result<usize, u32>;
+
+// A change, and plain Rust that reads, judges and writes it, or copies codes and accounts.
+fn changing(text: &[u8], positions: usize, note: &str) {
+    let length = reference::change(text, usize::MAX).expect("a changed text").len();
+    let [mut ours, mut theirs, mut others] = [(); 3].map(|_| vec![0; length]);
+    let mut call_library = || {
+        let mut written = 0;
+        let number = calls::change(black_box(text), &mut ours, &mut written);
+        assert_eq!(black_box((number, written)), (0, length));
+        black_box(&ours);
+    };
+    let call_plain = |change: Change, output: &mut Vec<u8>| {
+        black_box(change(black_box(text), output).expect("a changed text"));
+        black_box(&output);
+    };
+    let mut call_same = || call_plain(plain::change, &mut theirs);
+    let mut call_other = || call_plain(plain::change_by_copying, &mut others);
+    let [library, same, best] = medians([&mut call_library, &mut call_same, &mut call_other]);
+    println!(
+        "{note:<26}{positions:>10}{:>9}{:>12}{:>12}{:>12}{:>12}{:>12.2}{:>12.2}",
+        text.len(),
+        time(library),
+        time(same),
+        time(best),
+        rate(text.len(), library),
+        library / same,
+        library / best
+    );
+}
+
+fn changes() {
+    println!();
+    println!("Changes: a text into its text in the other form; the bytes of the first in a second. 'plain' reads, judges and");
+    println!("writes; 'best plain' copies codes and accounts from the text where they stay as they are.");
+    println!(
+        "{:<26}{:>10}{:>9}{:>12}{:>12}{:>12}{:>12}{:>12}{:>12}",
+        "to", "positions", "bytes", "library", "plain", "best plain", "library", "to plain", "to best"
+    );
+    for positions in [10, 100, 1_024] {
+        let list = text_list(positions);
+        let mut falling = list.accounts.clone();
+        falling.reverse();
+        let coded = Series { accounts: falling, ..list.clone() };
+        for (from, to) in FORMS.into_iter().zip(["last numbers", "shorts"]) {
+            changing(&text_of(b'W', list.in_form(from).list()), positions, to);
+            changing(&text_of(b'W', coded.in_form(from).list()), positions, &format!("{to}, with codes"));
+        }
+    }
+}
+
 // Accounts of ten digits, in the order of a list.
 fn long_accounts(positions: usize, random: &mut Random) -> Vec<u32> {
     let mut account = 3_000_000_000u32;
@@ -339,6 +406,12 @@ fn long_accounts(positions: usize, random: &mut Random) -> Vec<u32> {
 
 fn few_contracts(positions: usize, random: &mut Random) -> Vec<u32> {
     (0..positions).map(|_| random.spread(9_000) as u32).collect()
+}
+
+fn text_list(positions: usize) -> Series {
+    let mut random = Random::new(0xBE7C_5000);
+    let accounts = long_accounts(positions, &mut random);
+    Series::by_account(accounts, few_contracts(positions, &mut random))
 }
 
 fn text_of(method: u8, list: List) -> Vec<u8> {
@@ -362,9 +435,7 @@ fn texts() {
         "call", "positions", "bytes", "library", "plain", "library", "plain", "to plain"
     );
     for positions in [10, 100, 1_024] {
-        let mut random = Random::new(0xBE7C_5000);
-        let accounts = long_accounts(positions, &mut random);
-        let list = Series::by_account(accounts, few_contracts(positions, &mut random));
+        let list = text_list(positions);
         whole_text(list.list(), "");
         for (method, note) in [(b'L', "   (L)"), (b'R', "   (R, with the ranges)")] {
             responding(&text_of(method, list.list()), positions, note);
@@ -372,6 +443,10 @@ fn texts() {
         let mut falling = list.accounts.clone();
         falling.reverse();
         whole_text(List { accounts: &falling, ..list.list() }, "   (with codes)");
+        let lasts = list.in_form(Form::LastNumbers);
+        whole_text(lasts.list(), "   (last numbers)");
+        responding(&text_of(b'R', lasts.list()), positions, "   (last numbers, R)");
+        whole_text(List { accounts: &falling, ..lasts.list() }, "   (last numbers, with codes)");
     }
     let shorts = few_contracts(1_024, &mut Random::new(0xBE7C_5000));
     let text = text_of(b'W', List::by_account(&make::upward(1_024), &shorts));
@@ -426,35 +501,46 @@ fn whole_days() {
     }
 }
 
-fn whole_runs() {
-    println!();
-    if !program::path().exists() {
-        println!("The program: {} is not there.", program::path().display());
-        return;
-    }
-    println!("The program: whole runs on a text of 1,024 positions, start and end of the process included.");
-    println!("{:<24}{:>9}{:>12}{:>12}{:>12}", "run", "bytes", "assign", "true", "to true");
-    let run = |command: &mut std::process::Command, file: &TextFile| {
+// Whole runs of a program on a text of 1,024 positions.
+fn whole_run(program: Program, method: u8, form: Form) {
+    let shorts: Vec<u32> = (0..1_024).map(|i| 9_000 + i % 700).collect();
+    let accounts: Vec<u32> = (0..1_024).map(|i| 4_000_000_000 + 977 * i).collect();
+    let list = Series::by_account(accounts, shorts).in_form(form);
+    let text = reference::write(method, list.total() as u32 - 1, 4_855, list.list(), usize::MAX).expect("a text");
+    let file = TextFile::new(&text);
+    let run = |command: &mut std::process::Command| {
         let status = command.stdin(Stdio::from(file.open())).stdout(Stdio::null()).stderr(Stdio::null()).status();
         black_box(status.expect("a run"));
     };
+    let ours = median(|| run(&mut program.command()));
+    let empty = median(|| run(&mut std::process::Command::new("/bin/true")));
+    println!(
+        "{:<14}{:<10}{:>9}{:>12}{:>12}{:>12.2}",
+        program.name(),
+        format!("{}{}", char::from(method), if form == Form::Shorts { "" } else { " last" }),
+        text.len(),
+        time(ours),
+        time(empty),
+        ours / empty
+    );
+}
+
+fn whole_runs() {
+    println!();
+    if let Some(missing) = PROGRAMS.into_iter().find(|program| !program.path().exists()) {
+        println!("The programs: {} is not there.", missing.path().display());
+        return;
+    }
+    println!(
+        "The programs: whole runs on a text of 1,024 positions with S = T - 1, start and end of the process included."
+    );
+    println!("{:<14}{:<10}{:>9}{:>12}{:>12}{:>12}", "program", "text", "bytes", "program", "true", "to true");
     for method in make::METHODS {
-        let shorts: Vec<u32> = (0..1_024).map(|i| 9_000 + i % 700).collect();
-        let accounts: Vec<u32> = (0..1_024).map(|i| 4_000_000_000 + 977 * i).collect();
-        let total: u32 = shorts.iter().sum();
-        let list = List::by_account(&accounts, &shorts);
-        let text = reference::write(method, total - 1, 4_855, list, usize::MAX).expect("a text");
-        let file = TextFile::new(&text);
-        let ours = median(|| run(&mut program::command(), &file));
-        let empty = median(|| run(&mut std::process::Command::new("/bin/true"), &file));
-        println!(
-            "{:<24}{:>9}{:>12}{:>12}{:>12.2}",
-            format!("{}, S = T - 1 = {}", char::from(method), total - 1),
-            text.len(),
-            time(ours),
-            time(empty),
-            ours / empty
-        );
+        whole_run(Program::Assign, method, Form::Shorts);
+    }
+    whole_run(Program::Assign, b'L', Form::LastNumbers);
+    for form in FORMS {
+        whole_run(Program::ChangeForm, b'L', form);
     }
 }
 
@@ -466,6 +552,7 @@ fn main() {
     allocations();
     distinct_accounts();
     texts();
+    changes();
     whole_days();
     whole_runs();
 }

@@ -3,10 +3,10 @@
 use std::fmt::Write;
 
 use reference::day::{Investor, MarketMaker};
-use reference::List;
+use reference::{Form, List};
 
 use crate::make::Series;
-use crate::program::{self, Feed};
+use crate::program::{Feed, Program};
 
 fn list(numbers: &[u32]) -> String {
     if numbers.is_empty() {
@@ -35,8 +35,13 @@ fn shown(method: u8) -> String {
     }
 }
 
-fn lists(List { codes, accounts, shorts }: List) -> String {
-    [codes, accounts, shorts].map(list).join(" ")
+// The form as the word that line 3 has for it.
+fn lists(List { form, codes, accounts, numbers }: List) -> String {
+    let form = match form {
+        Form::Shorts => "short",
+        Form::LastNumbers => "last",
+    };
+    format!("{form} {}", [codes, accounts, numbers].map(list).join(" "))
 }
 
 pub fn allocate(method: u8, list: List, exercised: u32, draw: u32, room: usize) -> String {
@@ -49,6 +54,10 @@ pub fn read(text: &[u8], rooms: [usize; 3]) -> String {
 
 pub fn write(method: u8, exercised: u32, draw: u32, list: List, room: usize) -> String {
     format!("write {} {exercised} {draw} {} {room}", shown(method), lists(list))
+}
+
+pub fn change(text: &[u8], room: usize) -> String {
+    format!("change {} {room}", hex(text))
 }
 
 pub fn respond(text: &[u8], room: usize) -> String {
@@ -67,17 +76,25 @@ pub fn explain(number: u32, line: &[u8], room: usize) -> String {
     format!("explain {number} {} {room}", hex(line))
 }
 
-pub fn program(text: &[u8], feed: Feed) -> String {
+pub fn program(program: Program, text: &[u8], feed: Feed) -> String {
     let by = match feed {
         Feed::Pipe => "pipe".to_string(),
         Feed::File => "file".to_string(),
         Feed::Pieces(size) => size.to_string(),
     };
-    format!("assign {by} {}", hex(text))
+    format!("{} {by} {}", program.name(), hex(text))
 }
 
 fn to_method(word: &str) -> u8 {
     word.parse().unwrap_or_else(|_| word.as_bytes()[0])
+}
+
+fn to_form(word: &str) -> Form {
+    match word {
+        "short" => Form::Shorts,
+        "last" => Form::LastNumbers,
+        other => panic!("no such form: {other}"),
+    }
 }
 
 fn to_feed(word: &str) -> Feed {
@@ -112,20 +129,22 @@ pub fn again(line: &str) -> Result<bool, String> {
     let n = |i: usize| words[i].parse::<u32>().expect("a number");
     let room = |i: usize| words[i].parse::<usize>().expect("a length");
     let series = |i: usize| {
-        let [codes, accounts, shorts] = [i, i + 1, i + 2].map(|i| to_list(words[i]));
-        Series { codes, accounts, shorts }
+        let [codes, accounts, numbers] = [i + 1, i + 2, i + 3].map(|i| to_list(words[i]));
+        Series { form: to_form(words[i]), codes, accounts, numbers }
     };
     match words[0] {
         "allocate" => {
-            crate::allocate(to_method(words[1]), series(2).list(), n(5), n(6), room(7)).map(|number| number == 0)
+            crate::allocate(to_method(words[1]), series(2).list(), n(6), n(7), room(8)).map(|number| number == 0)
         }
         "read" => crate::read(&to_bytes(words[1]), [2, 3, 4].map(room)),
-        "write" => crate::write(to_method(words[1]), n(2), n(3), series(4).list(), room(7)),
+        "write" => crate::write(to_method(words[1]), n(2), n(3), series(4).list(), room(8)),
+        "change" => crate::change(&to_bytes(words[1]), room(2)),
         "respond" => crate::respond(&to_bytes(words[1]), room(2)),
         "process_investor" => crate::process_investor(n(1), to_counts(words[2])).map(|number| number == 0),
         "process_market_maker" => crate::process_market_maker(n(1), to_counts(words[2])).map(|number| number == 0),
         "explain" => crate::explain(n(1), &to_bytes(words[2]), room(3)),
-        "assign" => program::compare(&to_bytes(words[2]), to_feed(words[1])),
+        "assign" => Program::Assign.compare(&to_bytes(words[2]), to_feed(words[1])),
+        "change_form" => Program::ChangeForm.compare(&to_bytes(words[2]), to_feed(words[1])),
         other => panic!("no such call: {other}"),
     }
 }

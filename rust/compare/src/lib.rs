@@ -11,7 +11,8 @@ pub mod random;
 
 use dilbreth::calls;
 use reference::day::{AfterDay, Investor, MarketMaker};
-pub use reference::List;
+use reference::Allocation;
+pub use reference::{Form, List, FORMS};
 
 // What the outputs hold before a call: no amount, no account in use, no byte of a text.
 const EDGE: usize = 8;
@@ -68,24 +69,48 @@ fn fair(method: u8, shorts: &[u32], exercised: u32, total: u32, amounts: &[u32])
         })
 }
 
-/// The allocating call; answers 0 or the number of the refusal.
-pub fn allocate(method: u8, list: List, exercised: u32, draw: u32, room: usize) -> Result<u32, String> {
-    let List { codes, accounts, shorts } = list;
-    let expected = reference::allocate(method, list, exercised, draw, room);
+/// The form as the wrapper has it.
+pub fn library_form(form: Form) -> dilbreth::Form {
+    match form {
+        Form::Shorts => dilbreth::Form::Shorts,
+        Form::LastNumbers => dilbreth::Form::LastNumbers,
+    }
+}
+
+// What an allocating call is handed; `room` is the length of its output.
+#[derive(Clone, Copy)]
+struct Call<'a> {
+    method: u8,
+    list: List<'a>,
+    exercised: u32,
+    draw: u32,
+    room: usize,
+}
+
+// Holds the library's answer to a call against the one expected; answers 0 or the number of the refusal.
+fn hold(call: Call, expected: &Result<Allocation, u32>) -> Result<u32, String> {
+    let Call { method, list, exercised, draw, room } = call;
+    let List { form, codes, accounts, numbers } = list;
     let mut lent = Lent::new(room, kept_number);
     let (mut total, mut further) = (kept_number(1), kept_number(2));
-    let amounts = lent.slice();
-    let number = calls::allocate(method, codes, accounts, shorts, exercised, draw, amounts, &mut total, &mut further);
-    let (want, written) = match &expected {
+    let number = calls::allocate(
+        method,
+        library_form(form).number(),
+        codes,
+        accounts,
+        numbers,
+        exercised,
+        draw,
+        lent.slice(),
+        &mut total,
+        &mut further,
+    );
+    let (want, written) = match expected {
         Ok(a) => ((0, a.total, a.further), &a.amounts[..]),
         Err(n) => ((*n, kept_number(1), kept_number(2)), &[][..]),
     };
     let found = (number, total, further);
     if found == want && lent.is(written, kept_number) {
-        if number == 0 && !fair(method, shorts, exercised, total, written) {
-            let case = cases::allocate(method, list, exercised, draw, room);
-            return Err(format!("{case}\n  both give {written:?}, which is no fair share"));
-        }
         return Ok(number);
     }
     Err(format!(
@@ -95,61 +120,75 @@ pub fn allocate(method: u8, list: List, exercised: u32, draw: u32, room: usize) 
     ))
 }
 
-/// The reading call, with lent lists of the lengths for codes, accounts and shorts; answers whether the text was
+// The same list in the other form has the same answer, but for 6 and 20.
+fn in_other_form(number: u32) -> u32 {
+    match number {
+        6 => 20,
+        20 => 6,
+        other => other,
+    }
+}
+
+/// The allocating call, and the same with the list in the other form; answers 0 or the number of the refusal.
+pub fn allocate(method: u8, list: List, exercised: u32, draw: u32, room: usize) -> Result<u32, String> {
+    let call = Call { method, list, exercised, draw, room };
+    let expected = reference::allocate(method, list, exercised, draw, room);
+    let number = hold(call, &expected)?;
+    if let Ok(found) = &expected {
+        if !fair(method, &list.shorts(), exercised, found.total, &found.amounts) {
+            let case = cases::allocate(method, list, exercised, draw, room);
+            return Err(format!("{case}\n  both give {:?}, which is no fair share", found.amounts));
+        }
+    }
+    let (form, numbers) = make::in_other_form(list);
+    let other = List { form, numbers: &numbers, ..list };
+    hold(Call { list: other, ..call }, &expected.map_err(in_other_form))?;
+    Ok(number)
+}
+
+/// The reading call, with lent lists of the lengths for codes, accounts and numbers; answers whether the text was
 /// accepted.
 pub fn read(text: &[u8], rooms: [usize; 3]) -> Result<bool, String> {
     let expected = reference::read(text, rooms);
     let mut lent = rooms.map(|room| Lent::new(room, kept_number));
-    let (mut method, mut exercised, mut draw, mut positions) = (kept_byte(1), kept_number(1), kept_number(2), !3);
-    let kept = (method, exercised, draw, positions);
-    let [codes, accounts, shorts] = lent.each_mut().map(Lent::slice);
-    let number = calls::read(text, codes, accounts, shorts, &mut method, &mut exercised, &mut draw, &mut positions);
+    let [mut exercised, mut draw, mut form] = [1, 2, 3].map(kept_number);
+    let (mut method, mut positions) = (kept_byte(1), !3);
+    let kept = (method, exercised, draw, form, positions);
+    let [codes, accounts, numbers] = lent.each_mut().map(Lent::slice);
+    let number =
+        calls::read(text, codes, accounts, numbers, &mut method, &mut exercised, &mut draw, &mut form, &mut positions);
     let (want, lists) = match &expected {
-        Ok(s) => ((0, (s.method, s.exercised, s.draw, s.shorts.len())), [&s.codes[..], &s.accounts, &s.shorts]),
+        Ok(s) => (
+            (0, (s.method, s.exercised, s.draw, library_form(s.form).number(), s.numbers.len())),
+            [&s.codes[..], &s.accounts, &s.numbers],
+        ),
         Err(n) => ((*n, kept), [&[][..]; 3]),
     };
-    let found = (number, (method, exercised, draw, positions));
+    let found = (number, (method, exercised, draw, form, positions));
     if found == want && lent.iter().zip(lists).all(|(lent, list)| lent.is(list, kept_number)) {
         return Ok(number == 0);
     }
     let differ: Vec<String> =
         lent.iter().zip(lists).map(|(lent, list)| lent.first_difference(list, kept_number)).collect();
     Err(format!(
-        "{}\n  answer and terms: expected {want:?}, found {found:?}; codes, accounts, shorts differ {differ:?}",
+        "{}\n  answer and terms: expected {want:?}, found {found:?}; codes, accounts, numbers differ {differ:?}",
         cases::read(text, rooms)
     ))
 }
 
-/// The writing call; answers whether the text was written.
-pub fn write(method: u8, exercised: u32, draw: u32, list: List, room: usize) -> Result<bool, String> {
-    let List { codes, accounts, shorts } = list;
-    let expected = reference::write(method, exercised, draw, list, room);
-    let mut text = Lent::new(room, kept_byte);
-    let mut length = !3;
-    let number = calls::write(method, exercised, draw, codes, accounts, shorts, text.slice(), &mut length);
-    let (want, written) = match &expected {
-        Ok(t) => ((0, t.len()), &t[..]),
-        Err(n) => ((*n, !3), &[][..]),
-    };
-    let found = (number, length);
-    if found == want && text.is(written, kept_byte) {
-        return Ok(number == 0);
-    }
-    Err(format!(
-        "{}\n  answer and length: expected {want:?}, found {found:?}; bytes differ {}",
-        cases::write(method, exercised, draw, list, room),
-        text.first_difference(written, kept_byte)
-    ))
-}
-
-/// The responding call; answers whether the output was long enough.
-pub fn respond(text: &[u8], room: usize) -> Result<bool, String> {
-    let expected = reference::respond(text, room);
+// Holds a call that writes bytes to an output of the length, and hands back how many, against those expected; answers
+// whether it was accepted. `case` shows it.
+fn hold_bytes(
+    expected: Result<Vec<u8>, u32>,
+    room: usize,
+    call: impl FnOnce(&mut [u8], &mut usize) -> u32,
+    case: impl FnOnce() -> String,
+) -> Result<bool, String> {
     let mut output = Lent::new(room, kept_byte);
     let mut length = !3;
-    let number = calls::respond(text, output.slice(), &mut length);
+    let number = call(output.slice(), &mut length);
     let (want, written) = match &expected {
-        Ok(t) => ((0, t.len()), &t[..]),
+        Ok(bytes) => ((0, bytes.len()), &bytes[..]),
         Err(n) => ((*n, !3), &[][..]),
     };
     let found = (number, length);
@@ -158,9 +197,33 @@ pub fn respond(text: &[u8], room: usize) -> Result<bool, String> {
     }
     Err(format!(
         "{}\n  answer and length: expected {want:?}, found {found:?}; bytes differ {}",
-        cases::respond(text, room),
+        case(),
         output.first_difference(written, kept_byte)
     ))
+}
+
+/// The writing call; answers whether the text was written.
+pub fn write(method: u8, exercised: u32, draw: u32, list: List, room: usize) -> Result<bool, String> {
+    let List { form, codes, accounts, numbers } = list;
+    let form = library_form(form).number();
+    hold_bytes(
+        reference::write(method, exercised, draw, list, room),
+        room,
+        |text, length| calls::write(method, exercised, draw, form, codes, accounts, numbers, text, length),
+        || cases::write(method, exercised, draw, list, room),
+    )
+}
+
+/// The changing call; answers whether the changed text was written.
+pub fn change(text: &[u8], room: usize) -> Result<bool, String> {
+    let expected = reference::change(text, room);
+    hold_bytes(expected, room, |output, length| calls::change(text, output, length), || cases::change(text, room))
+}
+
+/// The responding call; answers whether the output was long enough.
+pub fn respond(text: &[u8], room: usize) -> Result<bool, String> {
+    let expected = reference::respond(text, room);
+    hold_bytes(expected, room, |output, length| calls::respond(text, output, length), || cases::respond(text, room))
 }
 
 /// The investor's call of the library; `after` receives limit, long and short.
@@ -285,12 +348,12 @@ pub struct Count {
     accepted: u64,
     refused: u64,
     undrawn: [u64; 2],
-    met: [u64; 20],
+    met: [u64; 21],
 }
 
 impl Count {
     pub fn new(what: &'static str) -> Count {
-        Count { what, accepted: 0, refused: 0, undrawn: [0; 2], met: [0; 20] }
+        Count { what, accepted: 0, refused: 0, undrawn: [0; 2], met: [0; 21] }
     }
 
     /// One allocating call as a case; answers 0 or the number of the refusal.
@@ -300,7 +363,7 @@ impl Count {
         let number = outcome.as_ref().map_or(0, |number| *number);
         self.met[number as usize] += 1;
         if self.case(outcome.map(|number| number == 0)) {
-            self.allocated(method, list.shorts, exercised, draw);
+            self.allocated(method, list, exercised, draw);
         }
         number
     }
@@ -311,8 +374,8 @@ impl Count {
     }
 
     /// Counts an allocation where its draw is out of range.
-    pub fn allocated(&mut self, method: u8, shorts: &[u32], exercised: u32, draw: u32) {
-        let total = shorts.iter().sum();
+    pub fn allocated(&mut self, method: u8, list: List, exercised: u32, draw: u32) {
+        let total = list.shorts().iter().sum();
         if reference::judge_draw(method, total, draw).is_err() {
             self.undrawn[usize::from(exercised < total)] += 1;
         }
@@ -343,9 +406,9 @@ impl Count {
         if whole + one > 0 {
             println!("{}: {whole} whole series and {one} of one position with a draw out of range", self.what);
         }
-        let [order, again] = self.met([5, 19]);
-        if again > 0 {
-            println!("{}: {order} refused by 5, {again} by 19", self.what);
+        let [order, again, none, last] = self.met([5, 19, 6, 20]);
+        if again + last > 0 {
+            println!("{}: refused by 5 {order}, by 19 {again}, by 6 {none}, by 20 {last}", self.what);
         }
     }
 }

@@ -2,37 +2,76 @@
 
 use std::collections::BTreeSet;
 
-use reference::List;
+use reference::{Form, List, FORMS};
 
 use crate::random::Random;
 
 pub const METHODS: [u8; 4] = *b"WPLR";
 
-/// The fields of a text that are numbers: S, the draw, an account and shorts where there is no column of codes; then S,
-/// the draw, a code, an account and shorts where there is.
+/// The fields of a text that are numbers: S, the draw, an account and its number where there is no column of codes; then
+/// S, the draw, a code, an account and its number where there is.
 pub const FIELDS: usize = 9;
 const WITHOUT_CODE: usize = 4;
 
 #[derive(Clone, Debug)]
 pub struct Series {
+    pub form: Form,
     pub codes: Vec<u32>,
     pub accounts: Vec<u32>,
-    pub shorts: Vec<u32>,
+    pub numbers: Vec<u32>,
 }
 
 impl Series {
-    /// Each code is the account number.
+    /// In the form of shorts; each code is the account number.
     pub fn by_account(accounts: Vec<u32>, shorts: Vec<u32>) -> Series {
-        Series { codes: accounts.clone(), accounts, shorts }
+        Series::coded(accounts.clone(), accounts, shorts)
+    }
+
+    /// In the form of shorts.
+    pub fn coded(codes: Vec<u32>, accounts: Vec<u32>, shorts: Vec<u32>) -> Series {
+        Series { form: Form::Shorts, codes, accounts, numbers: shorts }
     }
 
     pub fn list(&self) -> List<'_> {
-        List { codes: &self.codes, accounts: &self.accounts, shorts: &self.shorts }
+        List { form: self.form, codes: &self.codes, accounts: &self.accounts, numbers: &self.numbers }
     }
 
     pub fn total(&self) -> u64 {
-        self.shorts.iter().map(|&s| u64::from(s)).sum()
+        match self.form {
+            Form::Shorts => self.numbers.iter().map(|&short| u64::from(short)).sum(),
+            Form::LastNumbers => u64::from(self.numbers.last().copied().unwrap_or(0)),
+        }
     }
+
+    /// The same list in the form.
+    pub fn in_form(&self, form: Form) -> Series {
+        let mut list = self.clone();
+        if form != list.form {
+            (list.form, list.numbers) = in_other_form(self.list());
+        }
+        list
+    }
+}
+
+pub fn other(form: Form) -> Form {
+    match form {
+        Form::Shorts => Form::LastNumbers,
+        Form::LastNumbers => Form::Shorts,
+    }
+}
+
+/// The other form and the numbers of the same list in it. A list that is refused is then refused at the same position:
+/// numbers that would pass 32 bits or fall below 0 stay there.
+pub fn in_other_form(list: List) -> (Form, Vec<u32>) {
+    let mut before = 0u32;
+    let next = |&number: &u32| match list.form {
+        Form::Shorts => {
+            before = before.saturating_add(number);
+            before
+        }
+        Form::LastNumbers => number.saturating_sub(std::mem::replace(&mut before, number)),
+    };
+    (other(list.form), list.numbers.iter().map(next).collect())
 }
 
 /// 1, 2, ..
@@ -126,7 +165,7 @@ fn any_codes(random: &mut Random, count: usize) -> Vec<u32> {
 /// and its accounts stand in any order, and those of P, L and R, where none is looked at, are any.
 pub fn coded(random: &mut Random, method: u8, list: &Series) -> Series {
     let mut list = list.clone();
-    let count = list.shorts.len();
+    let count = list.numbers.len();
     if count == 0 || random.one_in(3) {
         return list;
     }
@@ -258,13 +297,29 @@ fn spoil_position(random: &mut Random, list: &mut Series, at: usize) {
         _ => {}
     }
     if kind > 4 && random.one_in(3) {
-        list.shorts[at] = random.pick(&[0, 10_000_001, u32::MAX]);
+        spoil_number(random, list, at);
     }
+}
+
+// Faults of a number in either form: no shorts, a last number that is 0, equal to the one before or below it, and too
+// many contracts, or just not.
+fn spoil_number(random: &mut Random, list: &mut Series, at: usize) {
+    let before = list.numbers[at.saturating_sub(1)];
+    let up_to = 10_000_001 - list.numbers[at].min(10_000_000);
+    list.numbers[at] = match random.below(10) {
+        0..=2 => 0,
+        3 | 4 => before,
+        5 => before.saturating_sub(1),
+        6 => up_to,
+        7 => 10_000_000,
+        8 => 10_000_001,
+        _ => u32::MAX,
+    };
 }
 
 /// Breaks a list in one way.
 pub fn spoil(random: &mut Random, list: &mut Series) {
-    let count = list.shorts.len().min(list.accounts.len());
+    let count = list.numbers.len().min(list.accounts.len());
     if count == 0 {
         return;
     }
@@ -277,12 +332,10 @@ pub fn spoil(random: &mut Random, list: &mut Series) {
             let to = random.index(count);
             list.accounts.swap(at, to);
         }
-        4 | 5 => list.shorts[at] = 0,
-        6 => list.shorts[at] = 10_000_001 - list.shorts[at].min(10_000_000),
-        7 => list.shorts[at] = u32::MAX,
-        8 => drop(list.shorts.pop()),
+        4..=7 => spoil_number(random, list, at),
+        8 => drop(list.numbers.pop()),
         9 => drop(list.accounts.pop()),
-        10 => list.shorts.push(1),
+        10 => list.numbers.push(1),
         11 => drop(list.codes.pop()),
         12 => list.codes.push(u32::MAX),
         13 => list.accounts[at] = random.bits() as u32,
@@ -300,7 +353,7 @@ pub struct Call {
     pub room: usize,
 }
 
-/// A series under the four methods; at times its list is spoiled or the output is too short.
+/// A series under the four methods, in either form; at times its list is spoiled or the output is too short.
 pub fn calls(random: &mut Random, positions: u64, total: u64) -> [Call; 4] {
     let positions = random.spread(positions);
     let most = positions.max(random.spread(total));
@@ -312,34 +365,36 @@ pub fn calls(random: &mut Random, positions: u64, total: u64) -> [Call; 4] {
             let length = random.pick(&[0, 1, positions as usize + 1, 4_097]);
             list.codes = any_codes(random, length);
         }
-        let (exercised, draw) = terms(random, method, list.shorts.len(), list.total());
+        let (exercised, draw) = terms(random, method, list.numbers.len(), list.total());
+        list = list.in_form(random.pick(&FORMS));
         if random.one_in(12) {
             for _ in 0..random.between(1, 3) {
                 spoil(random, &mut list);
             }
         }
         let room = match random.below(16) {
-            0 => list.shorts.len().saturating_sub(1),
-            1 => random.index(list.shorts.len() + 1),
-            2..=8 => list.shorts.len(),
-            _ => list.shorts.len() + random.index(9),
+            0 => list.numbers.len().saturating_sub(1),
+            1 => random.index(list.numbers.len() + 1),
+            2..=8 => list.numbers.len(),
+            _ => list.numbers.len() + random.index(9),
         };
         Call { method, list, exercised, draw, room }
     })
 }
 
-/// A text that reads, with `lines` positions, mostly one that is allocated.
+/// A text in either form that reads, with `lines` positions, mostly one that is allocated.
 pub fn text(random: &mut Random, lines: usize) -> Vec<u8> {
     let method = random.pick(&METHODS);
-    let mut list = Series::by_account(vec![], vec![]);
+    let form = random.pick(&FORMS);
+    let mut list = Series { form, ..Series::by_account(vec![], vec![]) };
     if lines > 0 {
         let top = random.pick(&[40, 1_000, 100_000]).max(2 * lines as u64);
         let most = random.between(lines as u64, top);
         let made = series(random, lines, most, false);
-        list = if random.one_in(2) { made } else { coded(random, method, &made) };
+        list = if random.one_in(2) { made } else { coded(random, method, &made) }.in_form(form);
         if random.one_in(8) {
             spoil(random, &mut list);
-            for numbers in [&mut list.codes, &mut list.accounts, &mut list.shorts] {
+            for numbers in [&mut list.codes, &mut list.accounts, &mut list.numbers] {
                 numbers.resize(lines, 7);
             }
         }
@@ -360,12 +415,31 @@ pub fn text(random: &mut Random, lines: usize) -> Vec<u8> {
     }
 }
 
-const NAMES_3: &[u8] = b"account,short\n";
-const NAMES_3_WITH_CODE: &[u8] = b"code,account,short\n";
+/// Line 3, with the column of codes or without.
+pub fn names(coded: bool, form: Form) -> &'static str {
+    match (coded, form) {
+        (false, Form::Shorts) => "account,short\n",
+        (false, Form::LastNumbers) => "account,last\n",
+        (true, Form::Shorts) => "code,account,short\n",
+        (true, Form::LastNumbers) => "code,account,last\n",
+    }
+}
+
+/// Whether line 3 of a text has the column of codes, and its form; neither where it is not exact.
+fn columns(text: &[u8]) -> Option<(bool, Form)> {
+    let line = text.split_inclusive(|&b| b == 10).nth(2)?;
+    let all = FORMS.into_iter().flat_map(|form| [(false, form), (true, form)]);
+    all.into_iter().find(|&(coded, form)| names(coded, form).as_bytes() == line)
+}
 
 /// Whether line 3 of a text has the column of codes.
 pub fn has_codes(text: &[u8]) -> bool {
-    text.split_inclusive(|&b| b == 10).nth(2) == Some(NAMES_3_WITH_CODE)
+    columns(text).is_some_and(|(coded, _)| coded)
+}
+
+/// The form that line 3 of a text gives.
+pub fn has_form(text: &[u8]) -> Option<Form> {
+    columns(text).map(|(_, form)| form)
 }
 
 /// A text without the column of codes with it: each code is the account, in its spelling.
@@ -445,16 +519,14 @@ pub fn is_account(field: usize) -> bool {
 }
 
 /// A text of one position with the number in the field; the numbers in the others are those of an allocation.
-pub fn in_field(field: usize, number: &str) -> Vec<u8> {
+pub fn in_field(form: Form, field: usize, number: &str) -> Vec<u8> {
     let mut fields = ["3", "5", "2", "7", "3", "5", "4", "2", "7"];
     fields[field] = number;
-    let [exercised, draw, account, short, of_coded @ ..] = fields;
-    if field < WITHOUT_CODE {
-        return format!("method,exercised,draw\nW,{exercised},{draw}\naccount,short\n{account},{short}\n").into_bytes();
-    }
-    let [exercised, draw, code, account, short] = of_coded;
-    let lines = format!("code,account,short\n{code},{account},{short}\n");
-    format!("method,exercised,draw\nW,{exercised},{draw}\n{lines}").into_bytes()
+    let coded = field >= WITHOUT_CODE;
+    let of_text = if coded { &fields[WITHOUT_CODE..] } else { &fields[..WITHOUT_CODE] };
+    let (terms, position) = of_text.split_at(2);
+    let [terms, position] = [terms, position].map(|fields| fields.join(","));
+    format!("method,exercised,draw\nW,{terms}\n{}{position}\n", names(coded, form)).into_bytes()
 }
 
 /// Whether each field of a text that reads has a number with leading zeros.
@@ -480,8 +552,8 @@ pub fn stretched(text: &[u8], length: usize) -> Vec<u8> {
 }
 
 /// A list of 1,024 positions whose text, with S and draw of one digit, has the length; near 32,768.
-pub fn list_of_length(length: usize) -> Series {
-    let head = b"method,exercised,draw\nW,1,1\ncode,account,short\n".len();
+pub fn list_of_length(form: Form, length: usize) -> Series {
+    let head = b"method,exercised,draw\nW,1,1\n".len() + names(true, form).len();
     let codes: Vec<u32> = (4_000_000_000..).take(1_024).collect();
     let accounts = codes.iter().rev().map(|code| code - 1_000_000_000).collect();
     let mut left = length - head - 1_024 * b"4000000000,3000000000,\n".len();
@@ -490,15 +562,15 @@ pub fn list_of_length(length: usize) -> Series {
         left -= digits;
         10u32.pow(digits as u32 - 1)
     };
-    Series { codes, accounts, shorts: (1..=1_024).rev().map(digits).collect() }
+    Series { form, codes, accounts, numbers: (1..=1_024).rev().map(digits).collect() }
 }
 
 /// A text of 1,024 positions with codes and leading zeros that has the length, near 32,768; it is allocated if that is
 /// not too long.
-pub fn text_of_length(length: usize) -> Vec<u8> {
-    let mut list = list_of_length(32_768);
-    list.shorts = upward(1_024);
-    let text = reference::write(b'W', 500_000, 77, list.list(), usize::MAX).expect("a text");
+pub fn text_of_length(form: Form, length: usize) -> Vec<u8> {
+    let mut list = list_of_length(Form::Shorts, 32_768);
+    list.numbers = upward(1_024);
+    let text = reference::write(b'W', 500_000, 77, list.in_form(form).list(), usize::MAX).expect("a text");
     stretched(&text, length)
 }
 
@@ -579,13 +651,10 @@ fn repeat_account(random: &mut Random, text: &mut Vec<u8>, start: usize, end: us
 }
 
 /// Puts the column of codes in or takes it out: in line 3, in the whole text from line 3 on, or in the line given.
-fn other_form(random: &mut Random, text: &mut Vec<u8>, starts: &[usize], line: usize) {
-    let coded = has_codes(text);
+fn other_columns(random: &mut Random, text: &mut Vec<u8>, starts: &[usize], line: usize) {
+    let (coded, form) = columns(text).unwrap_or((false, random.pick(&FORMS)));
     match (random.below(3), starts) {
-        (0, &[_, _, from, to, ..]) => {
-            let names = if coded { NAMES_3 } else { NAMES_3_WITH_CODE };
-            text.splice(from..to, names.iter().copied());
-        }
+        (0, &[_, _, from, to, ..]) => drop(text.splice(from..to, names(!coded, form).bytes())),
         (1, _) => *text = if coded { without_codes(text) } else { with_codes(text) },
         _ if coded => {
             let start = starts[line];
@@ -599,6 +668,40 @@ fn other_form(random: &mut Random, text: &mut Vec<u8>, starts: &[usize], line: u
     }
 }
 
+/// The text with line 3 of the other form, its numbers as they are; none where line 3 is not exact.
+pub fn read_otherwise(text: &[u8]) -> Option<Vec<u8>> {
+    let (coded, form) = columns(text)?;
+    let from = line_starts(text)[2];
+    let mut text = text.to_vec();
+    text.splice(from..from + names(coded, form).len(), names(coded, other(form)).bytes());
+    Some(text)
+}
+
+/// Puts another number in the place of the last one of a position line: that of some line, 0, or one at a limit.
+fn other_last(random: &mut Random, text: &mut Vec<u8>) {
+    let starts = line_starts(text);
+    let of_line = |line: usize, text: &[u8]| {
+        let end = starts[line + 1] - 1;
+        let from = text[starts[line]..end].iter().rposition(|&b| b == b',').map_or(end, |at| starts[line] + at + 1);
+        (from, end)
+    };
+    if starts.len() < 5 {
+        return;
+    }
+    let [line, some] = [(); 2].map(|_| 3 + random.index(starts.len() - 4));
+    let (from, to) = of_line(line, text);
+    let (first, last) = of_line(if random.one_in(2) { (line - 1).max(3) } else { some }, text);
+    let found = text[first..last].to_vec();
+    let number = match random.below(8) {
+        0 => b"0",
+        1 => &b"10000000"[..],
+        2 => b"10000001",
+        3 => b"4294967295",
+        _ => &found,
+    };
+    text.splice(from..to, number.iter().copied());
+}
+
 /// Damages a text in one way.
 pub fn damage(random: &mut Random, text: &mut Vec<u8>) {
     let length = text.len();
@@ -606,7 +709,7 @@ pub fn damage(random: &mut Random, text: &mut Vec<u8>) {
     let line = random.index(starts.len());
     let start = starts[line];
     let end = starts.get(line + 1).copied().unwrap_or(length);
-    match random.below(26) {
+    match random.below(30) {
         0..=2 if length > 0 => {
             let at = random.index(length);
             text[at] = byte(random);
@@ -683,7 +786,9 @@ pub fn damage(random: &mut Random, text: &mut Vec<u8>) {
             text[a..b].reverse();
         }
         21 => repeat_account(random, text, start, end),
-        22..=24 => other_form(random, text, &starts, line),
+        22..=24 => other_columns(random, text, &starts, line),
+        25 => *text = read_otherwise(text).unwrap_or_else(|| text.clone()),
+        26..=28 => other_last(random, text),
         _ => {
             // Another method, known or not.
             if starts.len() > 1 && starts[1] < length {

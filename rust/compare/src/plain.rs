@@ -2,12 +2,134 @@
 
 use std::collections::HashSet;
 
-use reference::List;
+use reference::{Form, List};
 
 const ONE: u64 = 1_000_000;
+const MOST: u32 = 10_000_000;
 
 fn known(method: u8) -> bool {
     matches!(method, b'W' | b'P' | b'L' | b'R')
+}
+
+/// The numbers of a list in one of the forms.
+trait Numbers: Copy {
+    /// The contracts up to a position with the number, from those before it; or a refusal.
+    fn upto(before: u32, number: u32) -> Result<u32, u32>;
+
+    fn len(self) -> usize;
+
+    fn short(self, at: usize) -> u32;
+
+    fn shorts(self) -> impl Iterator<Item = u32>;
+
+    /// The position of a place, and how many of its contracts come from there on.
+    fn find(self, place: u32) -> (usize, u32);
+
+    /// Contracts one after the other from the starting place.
+    fn run(self, total: u32, exercised: u32, start: u32, amounts: &mut [u32]);
+}
+
+#[derive(Clone, Copy)]
+struct Shorts<'a>(&'a [u32]);
+
+impl Numbers for Shorts<'_> {
+    #[inline]
+    fn upto(before: u32, number: u32) -> Result<u32, u32> {
+        if number == 0 {
+            return Err(6);
+        }
+        if number > MOST - before {
+            return Err(7);
+        }
+        Ok(before + number)
+    }
+
+    #[inline]
+    fn len(self) -> usize {
+        self.0.len()
+    }
+
+    #[inline]
+    fn short(self, at: usize) -> u32 {
+        self.0[at]
+    }
+
+    #[inline]
+    fn shorts(self) -> impl Iterator<Item = u32> {
+        self.0.iter().copied()
+    }
+
+    fn find(self, place: u32) -> (usize, u32) {
+        let mut upto = 0;
+        for (position, &short) in self.0.iter().enumerate() {
+            upto += short;
+            if place <= upto {
+                return (position, upto - place + 1);
+            }
+        }
+        unreachable!("the place is at most T")
+    }
+
+    fn run(self, _: u32, exercised: u32, start: u32, amounts: &mut [u32]) {
+        let (first, here) = self.find(start);
+        let mut left = exercised - exercised.min(here);
+        let at_first = exercised - left;
+        for position in (first + 1..self.0.len()).chain(0..first) {
+            let take = left.min(self.0[position]);
+            amounts[position] = take;
+            left -= take;
+        }
+        amounts[first] = at_first + left;
+    }
+}
+
+#[derive(Clone, Copy)]
+struct LastNumbers<'a>(&'a [u32]);
+
+impl Numbers for LastNumbers<'_> {
+    #[inline]
+    fn upto(before: u32, number: u32) -> Result<u32, u32> {
+        if number <= before {
+            return Err(20);
+        }
+        if number > MOST {
+            return Err(7);
+        }
+        Ok(number)
+    }
+
+    #[inline]
+    fn len(self) -> usize {
+        self.0.len()
+    }
+
+    #[inline]
+    fn short(self, at: usize) -> u32 {
+        self.0[at] - if at == 0 { 0 } else { self.0[at - 1] }
+    }
+
+    #[inline]
+    fn shorts(self) -> impl Iterator<Item = u32> {
+        let mut before = 0;
+        self.0.iter().map(move |&last| last - std::mem::replace(&mut before, last))
+    }
+
+    fn find(self, place: u32) -> (usize, u32) {
+        let position = self.0.partition_point(|&last| last < place);
+        (position, self.0[position] - place + 1)
+    }
+
+    /// Each amount is what is assigned up to its last number less what is assigned up to the one before.
+    fn run(self, total: u32, exercised: u32, start: u32, amounts: &mut [u32]) {
+        let end = start - 1 + exercised;
+        let from_top = end.saturating_sub(total);
+        let mut before = 0;
+        for (amount, &last) in amounts.iter_mut().zip(self.0) {
+            let upto = last.min(from_top) + last.min(end).saturating_sub(start - 1);
+            *amount = upto - before;
+            before = upto;
+        }
+    }
 }
 
 /// The accounts met so far: each above the one before, or in a set from the first on that is not.
@@ -41,18 +163,17 @@ impl Met<'_> {
     }
 }
 
-/// `rising` has to rise, and `again` tells of each account whether it is refused.
+/// `rising` has to rise, and `again` tells of each account whether it is refused. T, or a refusal.
 #[inline]
-fn judge_list(
+fn judge_list<N: Numbers>(
     list: List,
     rising: &[u32],
     mut again: impl FnMut(usize) -> bool,
-    exercised: u32,
     room: usize,
 ) -> Result<u32, u32> {
-    let List { accounts, shorts, .. } = list;
+    let List { accounts, numbers, .. } = list;
     let count = accounts.len();
-    if count != shorts.len() || rising.len() != count {
+    if count != numbers.len() || rising.len() != count {
         return Err(1);
     }
     if count > 4_096 {
@@ -65,56 +186,50 @@ fn judge_list(
         return Err(4);
     }
     let mut before = 0;
-    let mut sum = 0u32;
-    for (at, (&number, &short)) in rising.iter().zip(shorts).enumerate() {
-        if number <= before {
+    let mut contracts = 0;
+    for (at, (&next, &number)) in rising.iter().zip(numbers).enumerate() {
+        if next <= before {
             return Err(5);
         }
         if again(at) {
             return Err(19);
         }
-        if short == 0 {
-            return Err(6);
-        }
-        if short > 10_000_000 - sum {
-            return Err(7);
-        }
-        sum += short;
-        before = number;
+        contracts = N::upto(contracts, number)?;
+        before = next;
     }
-    if exercised == 0 {
-        return Err(8);
-    }
-    if exercised > sum {
-        return Err(9);
-    }
-    Ok(sum)
+    Ok(contracts)
 }
 
-fn judge(method: u8, list: List, exercised: u32, room: usize) -> Result<u32, u32> {
+fn judge<N: Numbers>(method: u8, list: List, room: usize) -> Result<u32, u32> {
     if method == b'W' {
         let mut met = Met { accounts: list.accounts, highest: 0, set: None };
-        judge_list(list, list.codes, |at| met.again(at), exercised, room)
+        judge_list::<N>(list, list.codes, |at| met.again(at), room)
     } else {
-        judge_list(list, list.accounts, |_| false, exercised, room)
+        judge_list::<N>(list, list.accounts, |_| false, room)
     }
 }
 
 /// Judges a call; `assign` has the amounts that need its draw. T and the further number, or a refusal.
-fn judged(
-    method: u8,
-    list: List,
+fn judged<N: Numbers>(
+    (method, list, numbers): (u8, List, N),
     exercised: u32,
     draw: u32,
     amounts: &mut [u32],
-    assign: impl FnOnce(&[u32], u32, u32, u32, &mut [u32]) -> u32,
+    assign: impl FnOnce(N, u32, u32, u32, &mut [u32]) -> u32,
 ) -> Result<(u32, u32), u32> {
-    let total = judge(method, list, exercised, amounts.len())?;
-    let shorts = list.shorts;
-    let amounts = &mut amounts[..shorts.len()];
+    let total = judge::<N>(method, list, amounts.len())?;
+    if exercised == 0 {
+        return Err(8);
+    }
+    if exercised > total {
+        return Err(9);
+    }
+    let amounts = &mut amounts[..numbers.len()];
     if method != b'P' {
         if exercised == total {
-            amounts.copy_from_slice(shorts);
+            for (amount, short) in amounts.iter_mut().zip(numbers.shorts()) {
+                *amount = short;
+            }
             return Ok((total, 0));
         }
         if method != b'W' && amounts.len() == 1 {
@@ -126,17 +241,32 @@ fn judged(
             return Err(10);
         }
     }
-    Ok((total, assign(shorts, total, exercised, draw, amounts)))
+    Ok((total, assign(numbers, total, exercised, draw, amounts)))
+}
+
+fn by_method<N: Numbers>(
+    method: u8,
+    list: List,
+    numbers: N,
+    exercised: u32,
+    draw: u32,
+    amounts: &mut [u32],
+) -> Result<(u32, u32), u32> {
+    let call = (method, list, numbers);
+    match method {
+        b'W' => judged(call, exercised, draw, amounts, wheel),
+        b'P' => judged(call, exercised, draw, amounts, pro_rata),
+        b'L' => judged(call, exercised, draw, amounts, lottery),
+        b'R' => judged(call, exercised, draw, amounts, remainder_draw),
+        _ => Err(14),
+    }
 }
 
 /// T and the further number, or a refusal.
 pub fn allocate(method: u8, list: List, exercised: u32, draw: u32, amounts: &mut [u32]) -> Result<(u32, u32), u32> {
-    match method {
-        b'W' => judged(method, list, exercised, draw, amounts, wheel),
-        b'P' => judged(method, list, exercised, draw, amounts, pro_rata),
-        b'L' => judged(method, list, exercised, draw, amounts, lottery),
-        b'R' => judged(method, list, exercised, draw, amounts, remainder_draw),
-        _ => Err(14),
+    match list.form {
+        Form::Shorts => by_method(method, list, Shorts(list.numbers), exercised, draw, amounts),
+        Form::LastNumbers => by_method(method, list, LastNumbers(list.numbers), exercised, draw, amounts),
     }
 }
 
@@ -147,7 +277,12 @@ pub fn allocate_wheel_by_division(
     draw: u32,
     amounts: &mut [u32],
 ) -> Result<(u32, u32), u32> {
-    judged(b'W', list, exercised, draw, amounts, wheel_by_division)
+    match list.form {
+        Form::Shorts => judged((b'W', list, Shorts(list.numbers)), exercised, draw, amounts, wheel_by_division),
+        Form::LastNumbers => {
+            judged((b'W', list, LastNumbers(list.numbers)), exercised, draw, amounts, wheel_by_division)
+        }
+    }
 }
 
 /// As `allocate` for pro rata, with the cut-off found as the library finds it: by bisection, a count over the decimal
@@ -158,7 +293,12 @@ pub fn allocate_pro_rata_by_bisection(
     draw: u32,
     amounts: &mut [u32],
 ) -> Result<(u32, u32), u32> {
-    judged(b'P', list, exercised, draw, amounts, pro_rata_by_bisection)
+    match list.form {
+        Form::Shorts => judged((b'P', list, Shorts(list.numbers)), exercised, draw, amounts, pro_rata_by_bisection),
+        Form::LastNumbers => {
+            judged((b'P', list, LastNumbers(list.numbers)), exercised, draw, amounts, pro_rata_by_bisection)
+        }
+    }
 }
 
 fn interval(total: u32, blocks: u32) -> u64 {
@@ -166,25 +306,13 @@ fn interval(total: u32, blocks: u32) -> u64 {
     rounded.saturating_sub(25 * ONE)
 }
 
-/// The position of a place, and how many of its contracts come from there on.
-fn find(shorts: &[u32], place: u32) -> (usize, u32) {
-    let mut upto = 0;
-    for (position, &short) in shorts.iter().enumerate() {
-        upto += short;
-        if place <= upto {
-            return (position, upto - place + 1);
-        }
-    }
-    unreachable!("the place is at most T")
-}
-
 /// One walk over blocks and positions.
-fn wheel(shorts: &[u32], total: u32, exercised: u32, draw: u32, amounts: &mut [u32]) -> u32 {
+fn wheel<N: Numbers>(numbers: N, total: u32, exercised: u32, draw: u32, amounts: &mut [u32]) -> u32 {
     let blocks = exercised.div_ceil(25);
     let interval = interval(total, blocks);
     let (whole, part) = ((interval / ONE) as u32, (interval % ONE) as u32);
     amounts.fill(0);
-    let (mut position, mut here) = find(shorts, draw);
+    let (mut position, mut here) = numbers.find(draw);
     let mut reserve = 0;
     let mut left = exercised;
     loop {
@@ -194,10 +322,10 @@ fn wheel(shorts: &[u32], total: u32, exercised: u32, draw: u32, amounts: &mut [u
             amounts[position] += here;
             size -= here;
             position += 1;
-            if position == shorts.len() {
+            if position == numbers.len() {
                 position = 0;
             }
-            here = shorts[position];
+            here = numbers.short(position);
         }
         amounts[position] += size;
         here -= size;
@@ -213,16 +341,16 @@ fn wheel(shorts: &[u32], total: u32, exercised: u32, draw: u32, amounts: &mut [u
         while skip >= here {
             skip -= here;
             position += 1;
-            if position == shorts.len() {
+            if position == numbers.len() {
                 position = 0;
             }
-            here = shorts[position];
+            here = numbers.short(position);
         }
         here -= skip;
     }
 }
 
-fn wheel_by_division(shorts: &[u32], total: u32, exercised: u32, draw: u32, amounts: &mut [u32]) -> u32 {
+fn wheel_by_division<N: Numbers>(numbers: N, total: u32, exercised: u32, draw: u32, amounts: &mut [u32]) -> u32 {
     let blocks = exercised.div_ceil(25);
     let pace = 25 * ONE + interval(total, blocks);
     // How many of the first x contracts from the starting place are in blocks. Block j (from 0)
@@ -232,12 +360,12 @@ fn wheel_by_division(shorts: &[u32], total: u32, exercised: u32, draw: u32, amou
         let into = x - j * pace / ONE;
         (j * 25 + into.min(25)).min(u64::from(exercised)) as u32
     };
-    let (first, here) = find(shorts, draw);
+    let (first, here) = numbers.find(draw);
     let mut walked = u64::from(here);
     let mut before = marked(walked);
     amounts[first] = before;
-    for position in (first + 1..shorts.len()).chain(0..first) {
-        walked += u64::from(shorts[position]);
+    for position in (first + 1..numbers.len()).chain(0..first) {
+        walked += u64::from(numbers.short(position));
         let upto = marked(walked);
         amounts[position] = upto - before;
         before = upto;
@@ -247,11 +375,11 @@ fn wheel_by_division(shorts: &[u32], total: u32, exercised: u32, draw: u32, amou
 }
 
 /// Round one, then the decimal part at which the remainder runs out, then one walk.
-fn pro_rata(shorts: &[u32], total: u32, exercised: u32, draw: u32, amounts: &mut [u32]) -> u32 {
-    let count = shorts.len();
+fn pro_rata<N: Numbers>(numbers: N, total: u32, exercised: u32, draw: u32, amounts: &mut [u32]) -> u32 {
+    let count = numbers.len();
     if count <= 64 {
         let (mut decimals, mut ranked) = ([0; 64], [0; 64]);
-        let remaining = round_one(shorts, total, exercised, amounts, &mut decimals[..count]);
+        let remaining = round_one(numbers, total, exercised, amounts, &mut decimals[..count]);
         if remaining > 0 {
             let ranked = &mut ranked[..count];
             ranked.copy_from_slice(&decimals[..count]);
@@ -263,7 +391,7 @@ fn pro_rata(shorts: &[u32], total: u32, exercised: u32, draw: u32, amounts: &mut
         remaining
     } else {
         let mut decimals = [0; 4_096];
-        let remaining = round_one(shorts, total, exercised, amounts, &mut decimals[..count]);
+        let remaining = round_one(numbers, total, exercised, amounts, &mut decimals[..count]);
         if remaining > 0 {
             let (last, equal, left) = cut_off(&decimals[..count], remaining);
             round_two(amounts, &decimals[..count], last, equal, left, draw);
@@ -272,14 +400,14 @@ fn pro_rata(shorts: &[u32], total: u32, exercised: u32, draw: u32, amounts: &mut
     }
 }
 
-fn round_one(shorts: &[u32], total: u32, exercised: u32, amounts: &mut [u32], decimals: &mut [u32]) -> u32 {
+fn round_one<N: Numbers>(numbers: N, total: u32, exercised: u32, amounts: &mut [u32], decimals: &mut [u32]) -> u32 {
     // The percentage as 5 and 12 decimals, so that every product fits 64 bits.
     const PART: u64 = 1_000_000_000_000;
     let (t, s) = (u64::from(total), u64::from(exercised) * 100_000_000);
     let percentage = s / t * 1_000_000_000 + s % t * 1_000_000_000 / t;
     let (high, low) = (percentage / PART, percentage % PART);
     let mut remaining = exercised;
-    for ((&short, amount), decimal) in shorts.iter().zip(amounts.iter_mut()).zip(decimals.iter_mut()) {
+    for ((short, amount), decimal) in numbers.shorts().zip(amounts.iter_mut()).zip(decimals.iter_mut()) {
         let exact = u64::from(short) * high + u64::from(short) * low / PART;
         let whole = (exact / 100_000) as u32;
         *amount = whole;
@@ -316,26 +444,26 @@ fn cut_off(decimals: &[u32], remaining: u32) -> (u32, u32, u32) {
 }
 
 /// A short list has a short room for its decimal parts.
-fn pro_rata_by_bisection(shorts: &[u32], total: u32, exercised: u32, draw: u32, amounts: &mut [u32]) -> u32 {
-    let count = shorts.len();
+fn pro_rata_by_bisection<N: Numbers>(numbers: N, total: u32, exercised: u32, draw: u32, amounts: &mut [u32]) -> u32 {
+    let count = numbers.len();
     if count <= 128 {
         let mut decimals = [0; 128];
-        both_rounds(shorts, total, exercised, draw, amounts, &mut decimals[..count])
+        both_rounds(numbers, total, exercised, draw, amounts, &mut decimals[..count])
     } else {
         let mut decimals = [0; 4_096];
-        both_rounds(shorts, total, exercised, draw, amounts, &mut decimals[..count])
+        both_rounds(numbers, total, exercised, draw, amounts, &mut decimals[..count])
     }
 }
 
-fn both_rounds(
-    shorts: &[u32],
+fn both_rounds<N: Numbers>(
+    numbers: N,
     total: u32,
     exercised: u32,
     draw: u32,
     amounts: &mut [u32],
     decimals: &mut [u32],
 ) -> u32 {
-    let remaining = round_one(shorts, total, exercised, amounts, decimals);
+    let remaining = round_one(numbers, total, exercised, amounts, decimals);
     if remaining > 0 {
         let (last, equal, left) = cut_off_by_bisection(decimals, remaining);
         round_two(amounts, decimals, last, equal, left, draw);
@@ -374,34 +502,29 @@ fn round_two(amounts: &mut [u32], decimals: &[u32], last: u32, equal: u32, serve
     }
 }
 
-fn lottery(shorts: &[u32], total: u32, exercised: u32, draw: u32, amounts: &mut [u32]) -> u32 {
+fn lottery<N: Numbers>(numbers: N, total: u32, exercised: u32, draw: u32, amounts: &mut [u32]) -> u32 {
     let start = (u64::from(draw) * u64::from(total)).div_ceil(10_000) as u32;
-    run(shorts, exercised, start, amounts);
+    numbers.run(total, exercised, start, amounts);
     start
 }
 
-fn remainder_draw(shorts: &[u32], total: u32, exercised: u32, draw: u32, amounts: &mut [u32]) -> u32 {
+fn remainder_draw<N: Numbers>(numbers: N, total: u32, exercised: u32, draw: u32, amounts: &mut [u32]) -> u32 {
     let start = draw % total + 1;
-    run(shorts, exercised, start, amounts);
+    numbers.run(total, exercised, start, amounts);
     start
-}
-
-/// Contracts one after the other from the starting place.
-fn run(shorts: &[u32], exercised: u32, start: u32, amounts: &mut [u32]) {
-    let (first, here) = find(shorts, start);
-    let mut left = exercised - exercised.min(here);
-    let at_first = exercised - left;
-    for position in (first + 1..shorts.len()).chain(0..first) {
-        let take = left.min(shorts[position]);
-        amounts[position] = take;
-        left -= take;
-    }
-    amounts[first] = at_first + left;
 }
 
 const NAMES_1: &[u8] = b"method,exercised,draw\n";
-const NAMES_3: &[u8] = b"account,short\n";
-const NAMES_3_WITH_CODE: &[u8] = b"code,account,short\n";
+const COLUMNS: [(bool, Form, &[u8]); 4] = [
+    (false, Form::Shorts, b"account,short\n"),
+    (true, Form::Shorts, b"code,account,short\n"),
+    (false, Form::LastNumbers, b"account,last\n"),
+    (true, Form::LastNumbers, b"code,account,last\n"),
+];
+
+fn names_3(coded: bool, form: Form) -> &'static [u8] {
+    COLUMNS[usize::from(coded) + 2 * usize::from(form == Form::LastNumbers)].2
+}
 
 /// A number from `at` up to the byte `end`, which stands after at most ten digits; the place after that byte.
 #[inline]
@@ -418,29 +541,49 @@ fn number(text: &[u8], at: usize, end: u8) -> Option<(u32, usize)> {
     None
 }
 
-/// Reads the position lines, with a code first where there is a column of codes; how many there are.
+/// A position line: its code, account and number, and where they begin.
+struct Line {
+    values: [u32; 3],
+    starts: [usize; 3],
+}
+
+/// Reads the position lines, with a code first where there is a column of codes; how many there are. `see` is handed the
+/// index of each and the line.
 #[inline]
-fn positions<const CODES: bool>(lines: &[u8], found: &mut [(u32, u32, u32); 1_024]) -> Result<usize, u32> {
+fn positions<const CODES: bool>(lines: &[u8], mut see: impl FnMut(usize, Line)) -> Result<usize, u32> {
     let (mut count, mut at) = (0, 0);
     while at < lines.len() {
-        let slot = found.get_mut(count).ok_or(15u32)?;
+        if count == 1_024 {
+            return Err(15);
+        }
         let (code, next) = number(lines, at, b',').ok_or(13u32)?;
-        let (account, next) = if CODES { number(lines, next, b',').ok_or(13u32)? } else { (code, next) };
-        let (short, next) = number(lines, next, b'\n').ok_or(13u32)?;
-        *slot = (code, account, short);
+        let (middle, account, next) = if CODES {
+            let (account, after) = number(lines, next, b',').ok_or(13u32)?;
+            (next, account, after)
+        } else {
+            (at, code, next)
+        };
+        let (number, end) = number(lines, next, b'\n').ok_or(13u32)?;
+        see(count, Line { values: [code, account, number], starts: [at, middle, next] });
         count += 1;
-        at = next;
+        at = end;
     }
     Ok(count)
 }
 
-/// Method, S, draw and number of positions, or a refusal.
-pub fn read(
-    text: &[u8],
-    codes: &mut [u32],
-    accounts: &mut [u32],
-    shorts: &mut [u32],
-) -> Result<(u8, u32, u32, usize), u32> {
+/// What a text has beside its positions.
+#[derive(Clone, Copy, Debug, PartialEq)]
+pub struct Terms {
+    pub method: u8,
+    pub exercised: u32,
+    pub draw: u32,
+    pub form: Form,
+    pub count: usize,
+}
+
+/// The terms without the number of positions, whether there is a column of codes, and the position lines.
+#[inline]
+fn head(text: &[u8]) -> Result<(Terms, bool, &[u8]), u32> {
     if text.len() > 32_768 {
         return Err(11);
     }
@@ -457,20 +600,32 @@ pub fn read(
     let (exercised, at) = number(line, 2, b',').ok_or(13u32)?;
     let (draw, _) = number(line, at, b'\n').ok_or(13u32)?;
     let rest = &rest[line_end + 1..];
-    let mut found = [(0, 0, 0); 1_024];
-    let count = if let Some(lines) = rest.strip_prefix(NAMES_3) {
-        positions::<false>(lines, &mut found)?
-    } else {
-        positions::<true>(rest.strip_prefix(NAMES_3_WITH_CODE).ok_or(12u32)?, &mut found)?
-    };
-    if codes.len().min(accounts.len()).min(shorts.len()) < count {
+    let found = COLUMNS.iter().find_map(|&(coded, form, names)| Some((coded, form, rest.strip_prefix(names)?)));
+    let (coded, form, lines) = found.ok_or(12u32)?;
+    Ok((Terms { method, exercised, draw, form, count: 0 }, coded, lines))
+}
+
+/// Reads a text; `see` is handed the index and the line of each position.
+#[inline]
+fn parse(text: &[u8], see: impl FnMut(usize, Line)) -> Result<Terms, u32> {
+    let (terms, coded, lines) = head(text)?;
+    let count = if coded { positions::<true>(lines, see)? } else { positions::<false>(lines, see)? };
+    Ok(Terms { count, ..terms })
+}
+
+/// The terms of a text, or a refusal.
+pub fn read(text: &[u8], codes: &mut [u32], accounts: &mut [u32], numbers: &mut [u32]) -> Result<Terms, u32> {
+    let mut found = [[0; 3]; 1_024];
+    let terms = parse(text, |at, line| found[at] = line.values)?;
+    let count = terms.count;
+    if codes.len().min(accounts.len()).min(numbers.len()) < count {
         return Err(4);
     }
-    let lists = codes.iter_mut().zip(accounts).zip(shorts);
-    for (((code, account), short), from) in lists.zip(&found[..count]) {
-        (*code, *account, *short) = *from;
+    let lists = codes.iter_mut().zip(accounts).zip(numbers);
+    for (((code, account), number), from) in lists.zip(&found[..count]) {
+        [*code, *account, *number] = *from;
     }
-    Ok((method, exercised, draw, count))
+    Ok(terms)
 }
 
 fn digits(n: u32) -> usize {
@@ -496,22 +651,35 @@ fn put_bytes(text: &mut [u8], at: usize, bytes: &[u8]) -> usize {
     at + bytes.len()
 }
 
+fn head_length(exercised: u32, draw: u32, names_3: &[u8]) -> usize {
+    NAMES_1.len() + 4 + digits(exercised) + digits(draw) + names_3.len()
+}
+
+/// Lines 1 to 3.
+fn put_head(text: &mut [u8], method: u8, exercised: u32, draw: u32, names_3: &[u8]) -> usize {
+    let mut at = put_bytes(text, 0, NAMES_1);
+    at = put_bytes(text, at, &[method, b',']);
+    at = put(text, at, exercised, b',');
+    at = put(text, at, draw, b'\n');
+    put_bytes(text, at, names_3)
+}
+
 /// The length of the text, or a refusal.
 pub fn write(method: u8, exercised: u32, draw: u32, list: List, text: &mut [u8]) -> Result<usize, u32> {
-    let List { codes, accounts, shorts } = list;
+    let List { form, codes, accounts, numbers } = list;
     if !known(method) {
         return Err(14);
     }
-    if accounts.len() != shorts.len() || codes.len() != shorts.len() {
+    if accounts.len() != numbers.len() || codes.len() != numbers.len() {
         return Err(1);
     }
     if accounts.len() > 1_024 {
         return Err(15);
     }
     let coded = codes != accounts;
-    let names_3 = if coded { NAMES_3_WITH_CODE } else { NAMES_3 };
-    let mut length = NAMES_1.len() + names_3.len() + 4 + digits(exercised) + digits(draw);
-    length += accounts.iter().zip(shorts).map(|(&a, &s)| digits(a) + digits(s) + 2).sum::<usize>();
+    let names_3 = names_3(coded, form);
+    let mut length = head_length(exercised, draw, names_3);
+    length += accounts.iter().zip(numbers).map(|(&a, &n)| digits(a) + digits(n) + 2).sum::<usize>();
     if coded {
         length += codes.iter().map(|&code| digits(code) + 1).sum::<usize>();
     }
@@ -521,17 +689,80 @@ pub fn write(method: u8, exercised: u32, draw: u32, list: List, text: &mut [u8])
     if text.len() < length {
         return Err(4);
     }
-    let mut at = put_bytes(text, 0, NAMES_1);
-    at = put_bytes(text, at, &[method, b',']);
-    at = put(text, at, exercised, b',');
-    at = put(text, at, draw, b'\n');
-    at = put_bytes(text, at, names_3);
-    for ((&code, &account), &short) in codes.iter().zip(accounts).zip(shorts) {
+    let mut at = put_head(text, method, exercised, draw, names_3);
+    for ((&code, &account), &number) in codes.iter().zip(accounts).zip(numbers) {
         if coded {
             at = put(text, at, code, b',');
         }
         at = put(text, at, account, b',');
-        at = put(text, at, short, b'\n');
+        at = put(text, at, number, b'\n');
+    }
+    Ok(at)
+}
+
+/// Judges the list of a text, and turns its numbers into those of the other form, which is handed back.
+fn turn(terms: Terms, codes: &[u32], accounts: &[u32], numbers: &mut [u32]) -> Result<Form, u32> {
+    let Terms { method, form, count, .. } = terms;
+    let list = List { form, codes, accounts, numbers };
+    let mut before = 0;
+    match form {
+        Form::Shorts => {
+            judge::<Shorts>(method, list, count)?;
+            for number in numbers {
+                *number += before;
+                before = *number;
+            }
+            Ok(Form::LastNumbers)
+        }
+        Form::LastNumbers => {
+            judge::<LastNumbers>(method, list, count)?;
+            for number in numbers {
+                *number -= std::mem::replace(&mut before, *number);
+            }
+            Ok(Form::Shorts)
+        }
+    }
+}
+
+/// The length of the changed text, or a refusal: reads, judges, turns and writes.
+pub fn change(text: &[u8], output: &mut [u8]) -> Result<usize, u32> {
+    let [mut codes, mut accounts, mut numbers] = [[0; 1_024]; 3];
+    let terms = parse(text, |at, line| [codes[at], accounts[at], numbers[at]] = line.values)?;
+    let Terms { method, exercised, draw, count, .. } = terms;
+    let (codes, accounts, numbers) = (&codes[..count], &accounts[..count], &mut numbers[..count]);
+    let form = turn(terms, codes, accounts, numbers)?;
+    write(method, exercised, draw, List { form, codes, accounts, numbers }, output)
+}
+
+/// As `change`, but where the columns stay and no code or account begins with 0, both are copied from the text.
+pub fn change_by_copying(text: &[u8], output: &mut [u8]) -> Result<usize, u32> {
+    let [mut codes, mut accounts, mut numbers] = [[0; 1_024]; 3];
+    let mut kept = [(0, 0); 1_024];
+    let mut zeros = false;
+    let (terms, coded, lines) = head(text)?;
+    let see = |at: usize, line: Line| {
+        [codes[at], accounts[at], numbers[at]] = line.values;
+        let [from, middle, to] = line.starts;
+        kept[at] = (from as u16, to as u16);
+        zeros |= lines[from] == b'0' || lines[middle] == b'0';
+    };
+    let count = if coded { positions::<true>(lines, see)? } else { positions::<false>(lines, see)? };
+    let Terms { method, exercised, draw, .. } = terms;
+    let (codes, accounts, numbers) = (&codes[..count], &accounts[..count], &mut numbers[..count]);
+    let form = turn(Terms { count, ..terms }, codes, accounts, numbers)?;
+    if zeros || coded != (codes != accounts) {
+        return write(method, exercised, draw, List { form, codes, accounts, numbers }, output);
+    }
+    let names_3 = names_3(coded, form);
+    let of_lines = kept.iter().zip(&*numbers).map(|(&(from, to), &number)| usize::from(to - from) + digits(number) + 1);
+    let length = head_length(exercised, draw, names_3) + of_lines.sum::<usize>();
+    if output.len() < length {
+        return Err(4);
+    }
+    let mut at = put_head(output, method, exercised, draw, names_3);
+    for (&(from, to), &number) in kept.iter().zip(&*numbers) {
+        at = put_bytes(output, at, &lines[usize::from(from)..usize::from(to)]);
+        at = put(output, at, number, b'\n');
     }
     Ok(at)
 }
@@ -542,23 +773,28 @@ const REFUSED: &[u8] = b"refused\n";
 
 /// Calls `see` with each position's account and the first and last contract of its range.
 #[inline]
-fn each_range(accounts: &[u32], shorts: &[u32], mut see: impl FnMut(u32, u32, u32)) {
+fn each_range(list: List, mut see: impl FnMut(u32, u32, u32)) {
     let mut before = 0;
-    for (&account, &short) in accounts.iter().zip(shorts) {
-        see(account, before + 1, before + short);
-        before += short;
+    for (&account, &number) in list.accounts.iter().zip(list.numbers) {
+        let last = match list.form {
+            Form::Shorts => before + number,
+            Form::LastNumbers => number,
+        };
+        see(account, before + 1, last);
+        before = last;
     }
 }
 
 /// The length of what is printed for a text, or 4.
 pub fn respond(text: &[u8], output: &mut [u8]) -> Result<usize, u32> {
-    let [mut codes, mut accounts, mut shorts, mut amounts] = [[0; 1_024]; 4];
-    let answer = read(text, &mut codes, &mut accounts, &mut shorts).and_then(|(method, exercised, draw, count)| {
-        let list = List { codes: &codes[..count], accounts: &accounts[..count], shorts: &shorts[..count] };
+    let [mut codes, mut accounts, mut numbers, mut amounts] = [[0; 1_024]; 4];
+    let answer = read(text, &mut codes, &mut accounts, &mut numbers).and_then(|terms| {
+        let Terms { method, exercised, draw, form, count } = terms;
+        let list = List { form, codes: &codes[..count], accounts: &accounts[..count], numbers: &numbers[..count] };
         let (total, _) = allocate(method, list, exercised, draw, &mut amounts[..count])?;
         Ok((method, total, list))
     });
-    let (method, total, List { accounts, shorts, .. }) = match answer {
+    let (method, total, list) = match answer {
         Ok(found) => found,
         Err(number) if output.len() < REFUSED.len() + digits(number) + 1 => return Err(4),
         Err(number) => {
@@ -566,13 +802,14 @@ pub fn respond(text: &[u8], output: &mut [u8]) -> Result<usize, u32> {
             return Ok(put(output, at, number, b'\n'));
         }
     };
+    let accounts = list.accounts;
     let amounts = &amounts[..accounts.len()];
     let mut length = AMOUNTS.len();
     length +=
         accounts.iter().zip(amounts).map(|(&account, &amount)| digits(account) + digits(amount) + 2).sum::<usize>();
     if method == b'R' {
         length += RANGES.len();
-        each_range(accounts, shorts, |account, first, last| {
+        each_range(list, |account, first, last| {
             length += [account, first, last, first + total, last + total].map(digits).iter().sum::<usize>() + 5;
         });
     }
@@ -586,7 +823,7 @@ pub fn respond(text: &[u8], output: &mut [u8]) -> Result<usize, u32> {
     }
     if method == b'R' {
         at = put_bytes(output, at, RANGES);
-        each_range(accounts, shorts, |account, first, last| {
+        each_range(list, |account, first, last| {
             for number in [account, first, last, first + total] {
                 at = put(output, at, number, b',');
             }
@@ -595,8 +832,6 @@ pub fn respond(text: &[u8], output: &mut [u8]) -> Result<usize, u32> {
     }
     Ok(at)
 }
-
-const MOST: u32 = 10_000_000;
 
 /// Limit, long and short after the day, or a refusal; a call, as the library's is one.
 #[inline(never)]

@@ -3,8 +3,8 @@
 
 use compare::make::{self, Series};
 use compare::random::Random;
-use compare::{Count, List};
-use dilbreth::Method;
+use compare::{library_form, Count, List};
+use dilbreth::{Form, Method};
 
 const MOST: u32 = 10_000_000;
 
@@ -31,7 +31,7 @@ fn orders(random: &mut Random, count: usize) -> Vec<(&'static str, Vec<u32>)> {
 
 // Accepts accounts, and refuses them once the last one stands earlier or is 0, also where its shorts are 0 or too many.
 fn last_account(count: &mut Count, random: &mut Random, what: &str, series: &Series) {
-    let length = series.shorts.len();
+    let length = series.numbers.len();
     let total = series.total() as u32;
     let mut met = |series: &Series, exercised: u32, expected: u32| {
         let draw = if exercised < total { 1 } else { 0 };
@@ -46,10 +46,10 @@ fn last_account(count: &mut Count, random: &mut Random, what: &str, series: &Ser
         spoiled.accounts[last] = account;
         met(&spoiled, total, 19);
         for short in [0, MOST, u32::MAX] {
-            spoiled.shorts[last] = short;
+            spoiled.numbers[last] = short;
             met(&spoiled, total, 19);
         }
-        spoiled.shorts[last - 1] = 0;
+        spoiled.numbers[last - 1] = 0;
         met(&spoiled, total, 6);
         spoiled.codes[last - 1] = 0;
         met(&spoiled, total, 5);
@@ -64,7 +64,7 @@ fn long_lists() {
         for (what, accounts) in orders(&mut random, length) {
             assert_eq!(accounts.len(), length);
             let shorts = vec![random.between(2, 9) as u32; length];
-            let series = Series { codes: make::rising(&mut random, length), accounts, shorts };
+            let series = Series::coded(make::rising(&mut random, length), accounts, shorts);
             last_account(&mut count, &mut random, what, &series);
             for method in *b"PLR" {
                 count.allocate(method, series.list(), 1, 1, length);
@@ -81,7 +81,7 @@ fn every_pair_of_positions() {
     let mut count = Count::new("codes, pairs");
     for length in [2, 9, 40, 4_096] {
         for (what, accounts) in orders(&mut random, length) {
-            let series = Series { codes: make::upward(length), accounts, shorts: vec![1; length] };
+            let series = Series::coded(make::upward(length), accounts, vec![1; length]);
             let mut pairs: Vec<(usize, usize)> =
                 (1..length.min(40)).flat_map(|j| (0..j).map(move |i| (i, j))).collect();
             if length > 40 {
@@ -106,20 +106,20 @@ fn every_pair_of_positions() {
 #[test]
 fn all_faults_of_one_position() {
     let mut count = Count::new("codes, faults of one position");
-    let good = Series { codes: vec![3, 5, 8, 9], accounts: vec![7, 2, 9, 4], shorts: vec![10, 20, 30, 40] };
+    let good = Series::coded(vec![3, 5, 8, 9], vec![7, 2, 9, 4], vec![10, 20, 30, 40]);
     for at in 0..4 {
         let before = at.max(1) - 1;
         let codes = [(good.codes[at], 0), (0, 5), if at > 0 { (good.codes[before], 5) } else { (0, 5) }];
         let accounts = [(good.accounts[at], 0), (0, 19)];
         let earlier = good.accounts[..at].iter().map(|&account| (account, 19));
-        let shorts = [(good.shorts[at], 0), (0, 6), (MOST, if at > 0 { 7 } else { 0 }), (u32::MAX, 7)];
+        let shorts = [(good.numbers[at], 0), (0, 6), (MOST, if at > 0 { 7 } else { 0 }), (u32::MAX, 7)];
         for (account, of_account) in accounts.into_iter().chain(earlier) {
             for (code, of_code) in codes {
                 for (short, of_short) in shorts {
                     let mut list = Series { codes: good.codes[..=at].to_vec(), ..good.clone() };
                     list.accounts.truncate(at + 1);
-                    list.shorts.truncate(at + 1);
-                    (list.codes[at], list.accounts[at], list.shorts[at]) = (code, account, short);
+                    list.numbers.truncate(at + 1);
+                    (list.codes[at], list.accounts[at], list.numbers[at]) = (code, account, short);
                     let expected = [of_code, of_account, of_short].into_iter().find(|&n| n > 0).unwrap_or(0);
                     assert_eq!(count.allocate(b'W', list.list(), 1, 1, 4), expected, "{list:?}");
                     for method in *b"PLR" {
@@ -174,8 +174,10 @@ fn amounts_are_those_of_the_shorts() {
             let (exercised, draw) = (random.between(1, total) as u32, random.between(1, total) as u32);
             let of_list = |series: &Series| {
                 let mut amounts = vec![0; positions];
-                let Series { codes, accounts, shorts } = series;
-                let found = dilbreth::allocate(Method::Wheel, codes, accounts, shorts, exercised, draw, &mut amounts);
+                let Series { codes, accounts, numbers, .. } = series;
+                let out = &mut amounts;
+                let found =
+                    dilbreth::allocate(Method::Wheel, Form::Shorts, codes, accounts, numbers, exercised, draw, out);
                 (found.expect("an allocation"), amounts)
             };
             let expected = of_list(&series);
@@ -189,33 +191,39 @@ fn amounts_are_those_of_the_shorts() {
     println!("codes, amounts of the shorts: {lists} lists");
 }
 
-// What the library writes it reads as the same series, in the short form exactly where the codes are the accounts.
+// What the library writes it reads as the same series, without the codes exactly where they are the accounts.
 #[test]
 fn round_trips() {
     let mut random = Random::new(0xC0DE_0005);
-    let mut forms = [0; 2];
+    let mut columns = [[0; 2]; 2];
     for _ in 0..6_000 {
         let lines = make::lines(&mut random);
         let Ok(s) = reference::read_text(&make::text(&mut random, lines)) else { continue };
-        let method = Method::from_byte(s.method).expect("a method");
-        let mut text = vec![0; 32_768];
-        let length = dilbreth::write(method, s.exercised, s.draw, &s.codes, &s.accounts, &s.shorts, &mut text);
-        text.truncate(length.expect("a text"));
+        let text = written(&s);
         let coded = make::has_codes(&text);
         assert_eq!(coded, s.codes != s.accounts);
-        forms[usize::from(coded)] += 1;
+        columns[library_form(s.form).number() as usize][usize::from(coded)] += 1;
         same_series(&text, &s);
         if !coded {
             same_series(&make::with_codes(&text), &s);
         }
     }
-    println!("codes, round trips: {} without a column of codes, {} with it", forms[0], forms[1]);
-    assert!(forms.iter().all(|&n| n > 1_000));
+    println!("codes, round trips: without a column of codes, with it: {columns:?} by shorts and last numbers");
+    assert!(columns.iter().flatten().all(|&n| n > 500));
+}
+
+fn written(s: &reference::Series) -> Vec<u8> {
+    let (method, form) = (Method::from_byte(s.method).expect("a method"), library_form(s.form));
+    let mut text = vec![0; 32_768];
+    let length = dilbreth::write(method, s.exercised, s.draw, form, &s.codes, &s.accounts, &s.numbers, &mut text);
+    text.truncate(length.expect("a text"));
+    text
 }
 
 fn same_series(text: &[u8], s: &reference::Series) {
-    let [mut codes, mut accounts, mut shorts] = [(); 3].map(|_| vec![0; s.shorts.len()]);
-    let terms = dilbreth::read(text, &mut codes, &mut accounts, &mut shorts).expect("a series");
+    let [mut codes, mut accounts, mut numbers] = [(); 3].map(|_| vec![0; s.numbers.len()]);
+    let terms = dilbreth::read(text, &mut codes, &mut accounts, &mut numbers).expect("a series");
     assert_eq!((terms.method.byte(), terms.exercised, terms.draw), (s.method, s.exercised, s.draw));
-    assert_eq!((terms.positions, &codes, &accounts, &shorts), (s.shorts.len(), &s.codes, &s.accounts, &s.shorts));
+    assert_eq!((terms.form, terms.positions), (library_form(s.form), s.numbers.len()));
+    assert_eq!((&codes, &accounts, &numbers), (&s.codes, &s.accounts, &s.numbers));
 }

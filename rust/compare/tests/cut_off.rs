@@ -8,7 +8,7 @@ use std::collections::BTreeSet;
 use compare::make::{self, Series};
 use compare::random::Random;
 use compare::{cases, Count};
-use dilbreth::{Allocated, Method};
+use dilbreth::{Allocated, Form, Method};
 
 const MOST: u64 = 10_000_000;
 const POSITIONS: u64 = 4_096;
@@ -31,7 +31,7 @@ fn shares(list: &Series, exercised: u32) -> Vec<(u32, u32)> {
         let carried = u128::from(short) * percentage / 1_000_000_000_000;
         ((carried / 100_000) as u32, (carried % 100_000) as u32)
     };
-    list.shorts.iter().map(share).collect()
+    list.numbers.iter().map(share).collect()
 }
 
 // A cut-off, how many positions have that decimal part (g), and how many of them can be served (m).
@@ -44,7 +44,7 @@ struct CutOff {
 
 // Counts over the list whether the separate version's cut-off is where the remainder runs out.
 fn cut_off(list: &Series, exercised: u32, shares: &[(u32, u32)], remaining: u32) -> Result<Option<CutOff>, String> {
-    let found = reference::cut_off(&list.shorts, exercised);
+    let found = reference::cut_off(&list.numbers, exercised);
     let (mut larger, mut as_large) = (0, 0);
     for &(_, decimal) in shares {
         larger += u32::from(found.is_some_and(|at| decimal > at));
@@ -127,9 +127,10 @@ impl Cases {
         for draw in draws {
             let expected = walk(&shares, cut_off, draw);
             let wanted = Ok(Allocated { total: list.total() as u32, further: remaining });
-            let mut amounts = vec![u32::MAX; list.shorts.len()];
-            let Series { codes, accounts, shorts } = list;
-            let found = dilbreth::allocate(Method::ProRata, codes, accounts, shorts, exercised, draw, &mut amounts);
+            let mut amounts = vec![u32::MAX; list.numbers.len()];
+            let (Series { codes, accounts, numbers, .. }, out) = (list, &mut amounts);
+            let found =
+                dilbreth::allocate(Method::ProRata, Form::Shorts, codes, accounts, numbers, exercised, draw, out);
             let differs = expected.iter().zip(&amounts).position(|(a, b)| a != b);
             self.count.case(if found == wanted && differs.is_none() {
                 compare::allocate(b'P', list.list(), exercised, draw, list.accounts.len()).map(|number| number == 0)
@@ -196,7 +197,7 @@ fn all_sizes() {
         let most = positions.max(random.spread(MOST));
         let exact = random.one_in(3);
         let list = make::series(random, positions as usize, most, exact);
-        let (exercised, draw) = make::terms(random, b'P', list.shorts.len(), list.total());
+        let (exercised, draw) = make::terms(random, b'P', list.numbers.len(), list.total());
         cases.series(&list, exercised.clamp(1, list.total() as u32), &[draw]);
     }
     cases.end([true; 5]);

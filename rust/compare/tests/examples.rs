@@ -1,4 +1,4 @@
-// The examples: what the program prints for each, that README.md shows it, the script that has only whole lists booked,
+// The examples: what the programs print for each, that README.md shows it, the script that has only whole lists booked,
 // and the program of the day's activity.
 
 use std::fs::{self, File};
@@ -7,7 +7,9 @@ use std::path::{Path, PathBuf};
 use std::process::{Command, Output, Stdio};
 use std::sync::OnceLock;
 
-use compare::program::{self, Feed, TextFile};
+use compare::program::Program::{Assign, ChangeForm};
+use compare::program::{Feed, TextFile};
+use compare::Form;
 
 const README: &str = include_str!("../../../README.md");
 
@@ -39,17 +41,62 @@ fn every_example_prints_what_is_stored_and_shown() {
     let examples = examples();
     for (name, refused) in &examples {
         let stored = file(&format!("{name}.out"));
-        let found = program::run(file(&format!("{name}.txt")).as_bytes(), Feed::Pipe);
+        let found = Assign.run(file(&format!("{name}.txt")).as_bytes(), Feed::Pipe);
         assert_eq!(String::from_utf8(found.stdout).unwrap(), stored, "{name}");
         assert_eq!(found.stderr.is_empty(), !refused, "{name}");
         assert_eq!(shown_after(&format!("`examples/{name}.txt`")), stored, "{name}");
     }
-    let names =
-        ["wheel", "pro-rata", "lottery", "remainder-draw", "leading-zeros", "whole", "codes", "after-day", "refused"];
+    let names = [
+        "wheel",
+        "pro-rata",
+        "lottery",
+        "remainder-draw",
+        "leading-zeros",
+        "last-numbers",
+        "whole",
+        "codes",
+        "after-day",
+        "refused",
+    ];
     for name in names {
         assert!(examples.contains(&(name.to_string(), name == "refused")), "{name}");
     }
     assert_eq!(shown_after("## The text of a series"), file("lottery.txt"));
+    assert_eq!(shown_after("## Last numbers"), file("last-numbers.txt"));
+}
+
+fn change(text: &str) -> String {
+    let found = ChangeForm.run(text.as_bytes(), Feed::Pipe);
+    assert!(found.stderr.is_empty());
+    String::from_utf8(found.stdout).unwrap()
+}
+
+// The table of the source, in its shape and by its shorts.
+#[test]
+fn the_source_table_as_last_numbers() {
+    let text = file("last-numbers.txt");
+    let series = reference::read_text(text.as_bytes()).unwrap();
+    assert_eq!((series.form, &series.numbers[..]), (Form::LastNumbers, &[5, 13, 15, 25, 36][..]));
+    assert_eq!(series.accounts, [1, 2, 3, 4, 5]);
+    assert_eq!((series.method, series.exercised, series.draw), (b'L', 13, 4855));
+    assert_eq!(file("last-numbers.changed"), file("lottery.txt"));
+    assert_eq!(file("last-numbers.out"), file("lottery.out"));
+    assert_eq!(change(&text), file("last-numbers.changed"));
+    assert_eq!(change(&file("last-numbers.changed")), text);
+}
+
+// Each example that the change takes, there and back: the same bytes, or the same series where it has leading zeros.
+#[test]
+fn every_example_there_and_back() {
+    for (name, _) in examples() {
+        let text = file(&format!("{name}.txt"));
+        let changed = change(&text);
+        let printed = [&text, &changed].map(|text| Assign.run(text.as_bytes(), Feed::File).stdout);
+        assert_eq!(printed[0], printed[1], "{name}");
+        let back = change(&changed);
+        assert_eq!(reference::read_text(back.as_bytes()), reference::read_text(text.as_bytes()), "{name}");
+        assert_eq!(back == text, name != "leading-zeros", "{name}");
+    }
 }
 
 // The source's exhibit: all 50 contracts to the seventh, whose ranges are 156 to 1155 and 1342 to 2341.
@@ -86,7 +133,7 @@ fn book_with(shell: &mut Command, text: &Path) -> Output {
 }
 
 fn book(text: &Path) -> Output {
-    book_with(Command::new("sh").env("ASSIGN", program::path()), text)
+    book_with(Command::new("sh").env("ASSIGN", Assign.path()), text)
 }
 
 // A program that prints the file LIST, and then runs the command THEN.
@@ -141,6 +188,13 @@ fn a_whole_list_of_every_method_is_booked() {
         ("R,9,0", "account,short\n0009,9\n"),
         ("R,9999999,5", "account,short\n4294967294,1\n4294967295,9999999\n"),
         ("R,7,11", "code,account,short\n0,8,5\n0,9,6\n"),
+        ("W,30,5", "account,last\n1,5\n2,13\n3,36\n"),
+        ("P,30,5", "account,last\n1,5\n2,13\n3,36\n"),
+        ("L,30,5", "account,last\n1,5\n2,13\n3,36\n"),
+        ("R,30,5", "account,last\n1,5\n2,13\n3,36\n"),
+        ("R,36,0", "account,last\n0001,0005\n2,13\n3,36\n"),
+        ("W,30,5", "code,account,last\n7,9,5\n8,2,13\n9,3,36\n"),
+        ("R,7,11", "code,account,last\n0,8,5\n0,9,11\n"),
     ] {
         let text = format!("{head}{terms}\n{lines}");
         let found = book(TextFile::new(text.as_bytes()).path());

@@ -1,7 +1,7 @@
 // The limits of the document, and lists to which several refusals apply.
 
-use compare::make::{draws, upward, METHODS};
-use compare::{Count, List};
+use compare::make::{draws, names, upward, METHODS};
+use compare::{Count, Form, List, FORMS};
 
 const MOST: u32 = 10_000_000;
 
@@ -10,7 +10,7 @@ fn each_method(count: &mut Count, accounts: &[u32], shorts: &[u32], exercised: &
     let codes = upward(accounts.len());
     let falling: Vec<u32> = accounts.iter().rev().copied().collect();
     let list = List::by_account(accounts, shorts);
-    let by_code = List { codes: &codes, accounts: &falling, shorts };
+    let by_code = List { codes: &codes, accounts: &falling, ..list };
     for (method, list) in METHODS.map(|method| (method, list)).into_iter().chain([(b'W', by_code)]) {
         for &s in exercised {
             for &draw in draws {
@@ -90,7 +90,7 @@ fn lengths_of_the_lists() {
         for s in lengths {
             // Codes as many as the shorts, as many as the accounts, and of other lengths.
             for c in [s, a, 0, 2, 4_097] {
-                let list = List { codes: &accounts[..c], accounts: &accounts[..a], shorts: &shorts[..s] };
+                let list = List { codes: &accounts[..c], ..List::by_account(&accounts[..a], &shorts[..s]) };
                 for room in [0, 1, 2, 3, 4, 4_095, 4_096, 4_097, 5_000] {
                     for method in *b"WPLRX" {
                         for exercised in [0, 1] {
@@ -98,8 +98,8 @@ fn lengths_of_the_lists() {
                         }
                     }
                 }
-                for method in *b"PR" {
-                    count.case(compare::write(method, 1, 1, list, 40_000));
+                for (method, form) in [(b'P', Form::Shorts), (b'R', Form::LastNumbers)] {
+                    count.case(compare::write(method, 1, 1, List { form, ..list }, 40_000));
                 }
             }
         }
@@ -111,21 +111,26 @@ fn lengths_of_the_lists() {
 fn every_method_byte() {
     let mut count = Count::new("limits, methods");
     for method in 0..=255 {
-        let (accounts, shorts) = (&[1, 2], &[30, 40]);
-        for codes in [&[1, 2][..], &[1, 3], &[2, 1], &[2]] {
-            let list = List { codes, accounts, shorts };
+        for (form, codes) in FORMS.into_iter().flat_map(|form| [&[1, 2][..], &[1, 3], &[2, 1], &[2]].map(|c| (form, c)))
+        {
+            let list = List { form, codes, ..List::by_account(&[1, 2], &[30, 40]) };
             count.allocate(method, list, 26, 7, 2);
             count.case(compare::write(method, 26, 7, list, 100));
             count.case(compare::write(method, 26, 7, list, 0));
-            count.case(compare::write(method, 26, 7, List { shorts: &[30], ..list }, 100));
+            count.case(compare::write(method, 26, 7, List { numbers: &[30], ..list }, 100));
         }
         count.allocate(method, List::by_account(&[], &[1]), 0, 0, 0);
         count.allocate(method, List::by_account(&[0], &[0]), 0, 0, 0);
-        for lines in ["account,short\n1,30\n2,40\n", "code,account,short\n1,2,30\n2,1,40\n"] {
-            let text = [&b"method,exercised,draw\n"[..], &[method], b",26,7\n", lines.as_bytes()].concat();
-            count.case(compare::read(&text, [2; 3]));
-            count.case(compare::respond(&text, 100));
-            count.case(compare::respond(&text, 20));
+        for (coded, lines) in [(false, "1,30\n2,40\n"), (true, "1,2,30\n2,1,40\n"), (false, ""), (true, "5,5,x\n")] {
+            for form in FORMS {
+                let lines = [names(coded, form), lines].concat();
+                let text = [&b"method,exercised,draw\n"[..], &[method], b",26,7\n", lines.as_bytes()].concat();
+                count.case(compare::read(&text, [2; 3]));
+                for room in [100, 20] {
+                    count.case(compare::respond(&text, room));
+                    count.case(compare::change(&text, room));
+                }
+            }
         }
     }
     count.print();
@@ -136,24 +141,25 @@ fn codes_for(accounts: [u32; 3]) -> [[u32; 3]; 7] {
     [accounts, [1, 2, 3], [7, 8, u32::MAX], [0, 2, 3], [2, 2, 3], [1, 2, 2], [5, 6, 0]]
 }
 
-// All lists of three positions from a few accounts and shorts: every order in which refusals can meet.
+// All lists of three positions from a few accounts and numbers: every order in which refusals can meet.
 #[test]
 fn several_refusals_at_once() {
     let mut count = Count::new("limits, several refusals");
     let accounts = [0, 1, 2, u32::MAX];
-    let shorts = [0, 1, MOST, MOST + 1, u32::MAX];
-    for number in 0..4u32.pow(3) * 5u32.pow(3) {
-        let (mut a, mut s) = ([0; 3], [0; 3]);
-        let mut rest = number as usize;
+    let kinds = [(Form::Shorts, [0, 1, MOST, MOST + 1, u32::MAX]), (Form::LastNumbers, [0, 2, 4, MOST + 1, u32::MAX])];
+    for (form, numbers, case) in kinds.into_iter().flat_map(|(f, n)| (0..4 * 4 * 4 * 5 * 5 * 5).map(move |c| (f, n, c)))
+    {
+        let (mut a, mut n) = ([0; 3], [0; 3]);
+        let mut rest = case;
         for i in 0..3 {
             a[i] = accounts[rest % 4];
             rest /= 4;
-            s[i] = shorts[rest % 5];
+            n[i] = numbers[rest % 5];
             rest /= 5;
         }
         for (c, codes) in codes_for(a).iter().enumerate() {
-            for (n, m, room) in [(3, 3, 3), (3, 3, 2), (2, 2, 3), (3, 2, 0)] {
-                let list = List { codes: &codes[..n], accounts: &a[..n], shorts: &s[..m] };
+            for (count_a, count_n, room) in [(3, 3, 3), (3, 3, 2), (2, 2, 3), (3, 2, 0)] {
+                let list = List { form, codes: &codes[..count_a], accounts: &a[..count_a], numbers: &n[..count_n] };
                 // P, L and R look at no code.
                 for &method in if c == 0 { &METHODS[..] } else { b"W" } {
                     each_exercised(&mut count, method, list, room);
@@ -162,28 +168,36 @@ fn several_refusals_at_once() {
         }
     }
     count.print();
-    assert!(!count.met([0, 1, 4, 5, 6, 7, 8, 9, 10, 19]).contains(&0));
+    assert!(!count.met([0, 1, 4, 5, 6, 7, 8, 9, 10, 19, 20]).contains(&0));
 }
 
 fn each_exercised(count: &mut Count, method: u8, list: List, room: usize) {
     for exercised in [0, 1, 3, 4, u32::MAX] {
         for draw in [0, 1, u32::MAX] {
             // Large T belongs to the other tests.
-            if list.shorts.iter().all(|&short| short != MOST) || exercised != 3 || method == b'P' {
+            if list.numbers.iter().all(|&number| number != MOST) || exercised != 3 || method == b'P' {
                 count.allocate(method, list, exercised, draw, room);
             }
         }
     }
 }
 
-// One list handed over as codes, accounts and shorts: what is only read may be shared.
+// One list handed over as codes, accounts and numbers: what is only read may be shared.
 #[test]
-fn accounts_that_are_the_shorts() {
+fn accounts_that_are_the_numbers() {
     let mut count = Count::new("limits, one list as all");
-    for positions in [1, 2, 5, 40, 1_000] {
-        let list = upward(positions);
-        let total: u32 = list.iter().sum();
-        each_method(&mut count, &list, &list, &[1, total / 2, total - 1, total], &[1, 77]);
+    for (positions, form) in [1, 2, 5, 40, 1_000].into_iter().flat_map(|positions| FORMS.map(|form| (positions, form)))
+    {
+        let numbers = upward(positions);
+        let list = List { form, ..List::by_account(&numbers, &numbers) };
+        let total: u32 = list.shorts().iter().sum();
+        for method in METHODS {
+            for exercised in [1, total / 2, total - 1, total] {
+                for draw in [1, 77] {
+                    count.allocate(method, list, exercised, draw, positions);
+                }
+            }
+        }
     }
     count.print();
 }

@@ -1,7 +1,7 @@
 // What the benchmarks measure against gives the same answers.
 
 use compare::random::Random;
-use compare::{cases, days, make, plain, Count, List};
+use compare::{cases, days, make, plain, Count, Form, List, FORMS};
 use reference::{Allocation, Series};
 
 // Holds an allocation by plain Rust against the separate version; `room` is the length of the output.
@@ -23,7 +23,7 @@ fn hold(
 fn plain_allocation() {
     let mut random = Random::new(0xBE7C_0001);
     let mut count = Count::new("plain");
-    let mut met = [0; 20];
+    let mut met = [0; 21];
     for case in 0..20_000 {
         let (positions, most) = if case % 100 == 0 { (4_096, 300_000) } else { (40, 2_000) };
         let positions = random.between(1, positions);
@@ -32,6 +32,7 @@ fn plain_allocation() {
         let method = random.pick(&make::METHODS);
         let mut list = make::coded(&mut random, method, &list);
         let (exercised, draw) = make::terms(&mut random, method, positions as usize, list.total());
+        list = list.in_form(random.pick(&FORMS));
         if random.one_in(10) {
             make::spoil(&mut random, &mut list);
         }
@@ -47,24 +48,24 @@ fn plain_allocation() {
         }
         met[answer.as_ref().err().map_or(0, |&number| number as usize)] += 1;
         if count.case(Ok(answer.is_ok())) {
-            count.allocated(method, &list.shorts, exercised, draw);
+            count.allocated(method, list.list(), exercised, draw);
         }
     }
     count.print();
     assert!(!count.undrawn().contains(&0));
-    println!("plain: {} refused by 5, {} by 19", met[5], met[19]);
-    assert!(met[5] > 0 && met[19] > 0);
+    println!("plain: refused by 5 {}, by 19 {}, by 6 {}, by 20 {}", met[5], met[19], met[6], met[20]);
+    assert!([0, 1, 4, 5, 6, 7, 8, 9, 10, 19, 20].iter().all(|&number| met[number] > 0));
 }
 
 // Holds the reading of a text against the separate version; the series, where there is one.
 fn read(text: &[u8], rooms: [usize; 3]) -> Result<Series, u32> {
-    let [mut codes, mut accounts, mut shorts] = rooms.map(|room| vec![0; room]);
-    let found = plain::read(text, &mut codes, &mut accounts, &mut shorts);
-    let found = found.map(|(method, exercised, draw, count)| {
-        for list in [&mut codes, &mut accounts, &mut shorts] {
+    let [mut codes, mut accounts, mut numbers] = rooms.map(|room| vec![0; room]);
+    let found = plain::read(text, &mut codes, &mut accounts, &mut numbers);
+    let found = found.map(|plain::Terms { method, exercised, draw, form, count }| {
+        for list in [&mut codes, &mut accounts, &mut numbers] {
             list.truncate(count);
         }
-        Series { method, exercised, draw, codes, accounts, shorts }
+        Series { method, exercised, draw, form, codes, accounts, numbers }
     });
     assert_eq!(found, reference::read(text, rooms), "{}", cases::read(text, rooms));
     found
@@ -105,16 +106,57 @@ fn plain_texts() {
     assert!(otherwise > 1_000 && coded > 1_000);
 }
 
-// Holds what is printed for a text against the separate version, with an output of the length; answers whether it fits.
-fn respond(text: &[u8], room: usize) -> bool {
+// Holds what is written to an output of the length against the bytes expected; answers whether anything is.
+fn hold_bytes(
+    expected: Result<Vec<u8>, u32>,
+    room: usize,
+    write: impl FnOnce(&mut [u8]) -> Result<usize, u32>,
+    case: &str,
+) -> bool {
     let mut output = vec![0xEE; room];
-    let found = plain::respond(text, &mut output);
-    let expected = reference::respond(text, room);
-    assert_eq!(found, expected.as_ref().map(Vec::len).map_err(|&number| number), "{}", cases::respond(text, room));
+    let found = write(&mut output);
+    assert_eq!(found, expected.as_ref().map(Vec::len).map_err(|&number| number), "{case}");
     let written = expected.unwrap_or_default();
     let rest = vec![0xEE; room - written.len()];
-    assert_eq!(output, [written, rest].concat(), "{}", cases::respond(text, room));
+    assert_eq!(output, [written, rest].concat(), "{case}");
     found.is_ok()
+}
+
+// Holds what is printed for a text against the separate version; answers whether it fits.
+fn respond(text: &[u8], room: usize) -> bool {
+    let expected = reference::respond(text, room);
+    hold_bytes(expected, room, |output| plain::respond(text, output), &cases::respond(text, room))
+}
+
+// Holds the change of a text, both ways, against the separate version; answers whether it is written.
+fn change(text: &[u8], room: usize) -> bool {
+    let (expected, case) = (reference::change(text, room), cases::change(text, room));
+    hold_bytes(expected.clone(), room, |output| plain::change(text, output), &case);
+    hold_bytes(expected, room, |output| plain::change_by_copying(text, output), &case)
+}
+
+#[test]
+fn plain_changes() {
+    let mut random = Random::new(0xBE7C_0005);
+    let mut count = Count::new("plain changes");
+    let mut kinds = [[0; 2]; 2];
+    for _ in 0..15_000 {
+        let lines = make::lines(&mut random);
+        let mut text = make::text(&mut random, lines);
+        if random.one_in(3) {
+            make::damage(&mut random, &mut text);
+        }
+        count.case(Ok(change(&text, 40_000)));
+        if let Ok(changed) = reference::change(&text, usize::MAX) {
+            assert!(change(&text, changed.len()) && !change(&text, changed.len() - 1));
+            assert!(change(&changed, reference::MOST_CHANGED));
+            let form = reference::read_text(&changed).expect("a series").form;
+            kinds[usize::from(form == Form::Shorts)][usize::from(make::has_codes(&changed))] += 1;
+        }
+    }
+    count.print();
+    println!("plain changes: to last numbers and to shorts, without codes and with them: {kinds:?}");
+    assert!(kinds.iter().flatten().all(|&n| n > 1_000));
 }
 
 #[test]
@@ -142,16 +184,16 @@ fn plain_printing() {
 #[test]
 fn plain_writing() {
     for (lengths, answer) in [([1, 2, 2], 1), ([2, 1, 2], 1), ([2, 2, 1], 1), ([1_025; 3], 15), ([1_024; 3], 11)] {
-        let [codes, accounts, shorts] = lengths.map(|length| vec![u32::MAX; length]);
+        let [codes, accounts, numbers] = lengths.map(|length| vec![u32::MAX; length]);
         let accounts: Vec<u32> = accounts.iter().map(|account| account - 1).collect();
-        let list = List { codes: &codes, accounts: &accounts, shorts: &shorts };
-        for room in [0, 40_000] {
+        for (form, room) in FORMS.into_iter().flat_map(|form| [(form, 0), (form, 40_000)]) {
+            let list = List { form, codes: &codes, accounts: &accounts, numbers: &numbers };
             assert_eq!(write(b'P', 1, 1, list, room), Err(answer), "{lengths:?}");
             assert_eq!(write(b'p', 1, 1, list, room), Err(14), "{lengths:?}");
         }
     }
-    for length in 32_766..=32_770 {
-        let list = make::list_of_length(length);
+    for (form, length) in FORMS.into_iter().flat_map(|form| (32_766..=32_770).map(move |length| (form, length))) {
+        let list = make::list_of_length(form, length);
         assert_eq!(write(b'W', 1, 1, list.list(), 40_000).is_ok(), length <= 32_768);
     }
 }
@@ -162,17 +204,17 @@ fn plain_numbers() {
     for value in [0, 1, 9, 10, 65_536, 999_999_999, 1_000_000_000, most, most + 1, 2 * most + 3, 9_999_999_999] {
         for zeros in 0..=12 {
             let number = format!("{}{value}", "0".repeat(zeros));
-            for field in 0..make::FIELDS {
-                let found = read(&make::in_field(field, &number), [1; 3]);
+            for (form, field) in FORMS.into_iter().flat_map(|form| (0..make::FIELDS).map(move |field| (form, field))) {
+                let found = read(&make::in_field(form, field, &number), [1; 3]);
                 assert_eq!(found.is_ok(), number.len() <= 10 && value <= most, "{number}");
                 for malformed in [format!("{number}x"), format!(" {number}")] {
-                    assert_eq!(read(&make::in_field(field, &malformed), [1; 3]), Err(13));
+                    assert_eq!(read(&make::in_field(form, field, &malformed), [1; 3]), Err(13));
                 }
             }
         }
     }
     for field in 0..make::FIELDS {
-        assert_eq!(read(&make::in_field(field, ""), [1; 3]), Err(13));
+        assert_eq!(read(&make::in_field(Form::LastNumbers, field, ""), [1; 3]), Err(13));
     }
 }
 

@@ -1,12 +1,13 @@
 // Over all starting places a position gets its shorts × S, by the library's own amounts.
 
 use compare::random::Random;
-use compare::{make, List};
+use compare::{library_form, make, List, FORMS};
 use dilbreth::Method;
 
 // Answers whether each starting place was handed back.
 fn shares(method: Method, list: List, exercised: u32, total: u32) -> bool {
-    let List { codes, accounts, shorts } = list;
+    let List { codes, accounts, numbers, .. } = list;
+    let (form, shorts) = (library_form(list.form), list.shorts());
     let mut amounts = vec![0; shorts.len()];
     let mut sums = vec![0u64; shorts.len()];
     // A whole series and one position have no starting place.
@@ -18,7 +19,7 @@ fn shares(method: Method, list: List, exercised: u32, total: u32) -> bool {
             Method::RemainderDraw => place - 1,
             _ => place,
         };
-        let answer = dilbreth::allocate(method, codes, accounts, shorts, exercised, draw, &mut amounts);
+        let answer = dilbreth::allocate(method, form, codes, accounts, numbers, exercised, draw, &mut amounts);
         let answer = answer.expect("an allocation");
         if method != Method::Wheel {
             assert_eq!(answer.further, if started { place } else { 0 });
@@ -27,7 +28,7 @@ fn shares(method: Method, list: List, exercised: u32, total: u32) -> bool {
             *sum += u64::from(amount);
         }
     }
-    for (sum, &short) in sums.iter().zip(shorts) {
+    for (sum, &short) in sums.iter().zip(&shorts) {
         assert_eq!(*sum, u64::from(short) * u64::from(exercised), "{method:?} {shorts:?} S {exercised}");
     }
     started
@@ -43,7 +44,7 @@ fn every_starting_place() {
             let list = make::series(&mut random, positions, most, true);
             let exercised = random.between(1, most) as u32;
             for (by, method) in [Method::Wheel, Method::Lottery, Method::RemainderDraw].into_iter().enumerate() {
-                let list = make::coded(&mut random, method.byte(), &list);
+                let list = make::coded(&mut random, method.byte(), &list).in_form(random.pick(&FORMS));
                 for exercised in [exercised, most as u32 - 1, most as u32] {
                     started[by] += u32::from(shares(method, list.list(), exercised, most as u32));
                     series += 1;

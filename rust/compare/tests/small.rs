@@ -1,6 +1,7 @@
-// Every list with T up to 7, every S from 0 to T + 1; every list of up to three codes and accounts from 0 to 3.
+// Every list with T up to 7, every S from 0 to T + 1; every list of up to three codes and accounts from 0 to 3; every
+// list of up to four last numbers from 0 to 5.
 
-use compare::{make, Count, List};
+use compare::{make, Count, Form, List, FORMS};
 
 // `undrawn` is how many whole series, and others of one position, are allocated with a draw out of range.
 fn all(what: &'static str, method: u8, undrawn: [u64; 2], draws: impl Fn(u32) -> Vec<u32>) {
@@ -12,7 +13,7 @@ fn all(what: &'static str, method: u8, undrawn: [u64; 2], draws: impl Fn(u32) ->
             series += 1;
             for exercised in 0..=total + 1 {
                 for &draw in &draws {
-                    let room = list.shorts.len() + (draw % 3) as usize;
+                    let room = list.numbers.len() + (draw % 3) as usize;
                     count.allocate(method, list.list(), exercised, draw, room);
                 }
             }
@@ -70,7 +71,7 @@ fn every_small_list_of_codes_and_accounts() {
         let mut accepted = [0; 4];
         for codes in up_to_three(length as u32) {
             for accounts in up_to_three(length as u32) {
-                let list = List { codes: &codes, accounts: &accounts, shorts };
+                let list = List { codes: &codes, ..List::by_account(&accounts, shorts) };
                 for (method, accepted) in make::METHODS.into_iter().zip(&mut accepted) {
                     for (exercised, draw) in [(total, 0), (total - 1, 2), (1, 0), (total + 1, 1)] {
                         let number = count.allocate(method, list, exercised, draw, length);
@@ -85,19 +86,48 @@ fn every_small_list_of_codes_and_accounts() {
     count.print();
 }
 
-// Codes, accounts, shorts and an output of each length up to three: who is refused by 1, and what comes first.
+// Every list of up to four last numbers from 0 to 5: accepted exactly where they rise from above 0, and then as the
+// differences are.
+#[test]
+fn every_small_list_of_last_numbers() {
+    let mut count = Count::new("small last numbers");
+    let mut rising = [0; 5];
+    for (length, code) in (1..=4).flat_map(|length| (0..6u32.pow(length)).map(move |code| (length, code))) {
+        let numbers: Vec<u32> = (0..length).map(|i| code / 6u32.pow(i) % 6).collect();
+        let accounts = make::upward(numbers.len());
+        let list = List { form: Form::LastNumbers, ..List::by_account(&accounts, &numbers) };
+        let total = numbers[numbers.len() - 1];
+        for method in make::METHODS {
+            for exercised in 0..=total + 1 {
+                for draw in 0..=total + 1 {
+                    count.allocate(method, list, exercised, draw, numbers.len());
+                }
+            }
+            let found = count.allocate(method, list, total.max(1), 1, numbers.len());
+            assert!(found == 0 || found == 20, "{found}: {numbers:?}");
+            rising[length as usize] += u32::from(found == 0);
+        }
+    }
+    // So many ways to choose the numbers from 1 to 5, under each of four methods.
+    assert_eq!(rising, [0, 4 * 5, 4 * 10, 4 * 10, 4 * 5]);
+    count.print();
+}
+
+// Codes, accounts, numbers and an output of each length up to three: who is refused by 1, and what comes first.
 #[test]
 fn every_small_length_of_codes_and_accounts() {
     let mut count = Count::new("small lengths");
     for [c, a, s, room] in up_to_three(4).map(|lengths| [0, 1, 2, 3].map(|i| lengths[i] as usize)) {
         for numbers in up_to_three(3) {
-            let list = List { codes: &numbers[..c], accounts: &[3, 1, 2][..a], shorts: &[4, 5, 6][..s] };
-            let other = List { codes: &[3, 1, 2][..c], accounts: &numbers[..a], shorts: &[4, 5, 6][..s] };
+            let list = List { codes: &numbers[..c], ..List::by_account(&[3, 1, 2][..a], &[4, 5, 6][..s]) };
+            let other = List { codes: &[3, 1, 2][..c], ..List::by_account(&numbers[..a], &[4, 5, 6][..s]) };
             for method in *b"WPLRX" {
                 for list in [list, other] {
                     count.allocate(method, list, 1, 1, room);
                 }
-                count.case(compare::write(method, 1, 1, list, 20 * room + 40));
+                for form in FORMS {
+                    count.case(compare::write(method, 1, 1, List { form, ..list }, 20 * room + 40));
+                }
             }
         }
     }

@@ -2,21 +2,25 @@
 
 use compare::make::{self, Series};
 use compare::random::Random;
+use compare::{library_form, FORMS};
 use dilbreth::calls;
 
 fn on_a_small_stack(call: impl FnOnce() + Send + 'static) {
     std::thread::Builder::new().stack_size(64 * 1024).spawn(call).expect("a thread").join().expect("a return");
 }
 
-// All of 4,096 positions with 2,441 contracts each.
+// All of 4,096 positions with 2,441 contracts each, in both forms.
 fn allocate(method: u8, codes: Vec<u32>, accounts: Vec<u32>) {
-    for (s, draw) in [(4_999_999, 10_000), (9_998_336, 0)] {
-        let (codes, accounts, shorts) = (codes.clone(), accounts.clone(), vec![2_441; 4_096]);
+    let list = Series::coded(codes, accounts, vec![2_441; 4_096]);
+    let lists = FORMS.map(|form| list.in_form(form));
+    for (list, (s, draw)) in lists.iter().flat_map(|list| [(list, (4_999_999, 10_000)), (list, (9_998_336, 0))]) {
+        let Series { form, codes, accounts, numbers } = list.clone();
+        let form = library_form(form).number();
         let mut amounts = vec![0; 4_096];
         on_a_small_stack(move || {
             let (mut total, mut further) = (0, 0);
-            let out = &mut amounts;
-            let number = calls::allocate(method, &codes, &accounts, &shorts, s, draw, out, &mut total, &mut further);
+            let (out, t, f) = (&mut amounts, &mut total, &mut further);
+            let number = calls::allocate(method, form, &codes, &accounts, &numbers, s, draw, out, t, f);
             assert_eq!((number, total), (0, 9_998_336));
             assert_eq!(amounts.iter().sum::<u32>(), s);
         });
@@ -58,8 +62,10 @@ fn respond(text: Vec<u8>) {
 #[test]
 fn responding() {
     let list = Series::by_account(make::upward(1_024), vec![977; 1_024]);
-    respond(reference::write(b'P', 700_000, 5, list.list(), usize::MAX).expect("a text"));
-    respond(make::text_of_length(32_768));
+    for form in FORMS {
+        respond(reference::write(b'P', 700_000, 5, list.in_form(form).list(), usize::MAX).expect("a text"));
+        respond(make::text_of_length(form, 32_768));
+    }
 }
 
 #[test]
@@ -67,18 +73,42 @@ fn responding_with_ranges() {
     let accounts = (0..1_024).map(|i| u32::MAX - 1_023 + i).collect();
     let list = Series::by_account(accounts, vec![9_765; 1_024]);
     for (exercised, draw) in [(9_999_360, 0), (9_999_359, u32::MAX), (1, 9_999_360)] {
-        respond(reference::write(b'R', exercised, draw, list.list(), usize::MAX).expect("a text"));
+        for form in FORMS {
+            respond(reference::write(b'R', exercised, draw, list.in_form(form).list(), usize::MAX).expect("a text"));
+        }
     }
 }
 
 #[test]
 fn reading_and_writing() {
-    let text = make::text_of_length(32_768);
-    on_a_small_stack(move || {
-        let [mut codes, mut accounts, mut shorts] = [(); 3].map(|_| vec![0; 1_024]);
-        let terms = dilbreth::read(&text, &mut codes, &mut accounts, &mut shorts).expect("a series");
-        let mut out = vec![0; 32_768];
-        let length = dilbreth::write(terms.method, 500_000, 77, &codes, &accounts, &shorts, &mut out);
-        assert_eq!((terms.positions, length.is_ok()), (1_024, true));
+    for text in FORMS.map(|form| make::text_of_length(form, 32_768)) {
+        on_a_small_stack(move || {
+            let [mut codes, mut accounts, mut numbers] = [(); 3].map(|_| vec![0; 1_024]);
+            let terms = dilbreth::read(&text, &mut codes, &mut accounts, &mut numbers).expect("a series");
+            let mut out = vec![0; 32_768];
+            let length = dilbreth::write(terms.method, 500_000, 77, terms.form, &codes, &accounts, &numbers, &mut out);
+            assert_eq!((terms.positions, length.is_ok()), (1_024, true));
+        });
+    }
+}
+
+// With accounts that fall, so that each is looked up, and with such as collide.
+#[test]
+fn changing() {
+    let mut random = Random::new(0x57AC_0002);
+    let colliding = make::sharing_upper_bits_of_product(&mut random, 1_024);
+    let list = Series::coded(make::rising(&mut random, 1_024), colliding, vec![9_765; 1_024]);
+    let [shorts, lasts] = FORMS.map(|form| {
+        let text = reference::write(b'W', 1, 1, list.in_form(form).list(), usize::MAX).expect("a text");
+        [text, make::text_of_length(form, 32_768)]
     });
+    for text in shorts.into_iter().chain(lasts) {
+        let changed = reference::change(&text, usize::MAX).expect("a changed text");
+        let mut output = vec![0; reference::MOST_CHANGED];
+        on_a_small_stack(move || {
+            let mut written = 0;
+            assert_eq!(calls::change(&text, &mut output, &mut written), 0);
+            assert_eq!(&output[..written], &changed[..]);
+        });
+    }
 }

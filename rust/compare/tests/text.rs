@@ -1,8 +1,8 @@
-// Texts, two of three damaged, through reading, writing and responding.
+// Texts, two of three damaged, through reading, writing, changing and responding.
 
 use compare::make::{self, Series};
 use compare::random::Random;
-use compare::{Count, List};
+use compare::{library_form, Count, Form, List, FORMS};
 use dilbreth::Refused;
 
 // Rooms around what is needed.
@@ -10,9 +10,17 @@ fn rooms(random: &mut Random, needed: usize) -> [usize; 3] {
     [needed, needed + 1 + random.index(9), needed - random.between(0, needed.min(3) as u64) as usize]
 }
 
-fn through(random: &mut Random, text: &[u8], reading: &mut Count, writing: &mut Count, responding: &mut Count) {
+struct Counts {
+    reading: Count,
+    writing: Count,
+    changing: Count,
+    responding: Count,
+}
+
+fn through(random: &mut Random, text: &[u8], counts: &mut Counts) {
+    let Counts { reading, writing, changing, responding } = counts;
     let series = reference::read_text(text);
-    let positions = series.as_ref().map_or(3, |s| s.shorts.len());
+    let positions = series.as_ref().map_or(3, |s| s.numbers.len());
     reading.case(compare::read(text, [positions; 3]));
     let [_, enough, fewer] = rooms(random, positions);
     reading.case(compare::read(text, [enough, positions, enough]));
@@ -25,9 +33,17 @@ fn through(random: &mut Random, text: &[u8], reading: &mut Count, writing: &mut 
     for room in rooms(random, printed.len()) {
         responding.case(compare::respond(text, room));
     }
+    let changed = reference::change(text, usize::MAX);
+    for room in rooms(random, changed.as_ref().map_or(60, Vec::len)) {
+        changing.case(compare::change(text, room));
+    }
+    if let Ok(changed) = changed {
+        assert_eq!(reference::printed(&changed), printed);
+        responding.case(compare::respond(&changed, printed.len()));
+    }
     if let Ok(s) = series {
         if !printed.starts_with(b"refused") {
-            responding.allocated(s.method, &s.shorts, s.exercised, s.draw);
+            responding.allocated(s.method, s.list(), s.exercised, s.draw);
         }
         let written = reference::write(s.method, s.exercised, s.draw, s.list(), usize::MAX).unwrap();
         for room in rooms(random, written.len()) {
@@ -64,8 +80,9 @@ struct Spellings {
     zeros: [u32; make::FIELDS],
     none: u32,
     all_in_ten: u32,
-    // Without a column of codes, with one that is left out in writing, and with one that is written.
-    forms: [u32; 3],
+    // By shorts and by last numbers: without a column of codes, with one that is left out in writing, and with one that
+    // is written.
+    columns: [[u32; 3]; 2],
 }
 
 impl Spellings {
@@ -77,34 +94,63 @@ impl Spellings {
         self.none += u32::from(!zeros.contains(&true));
         self.all_in_ten += u32::from(make::numbers(text).iter().all(|(from, to)| to - from == 10));
         let series = reference::read_text(text).expect("a series");
-        let form = u32::from(make::has_codes(text)) + u32::from(series.codes != series.accounts);
-        self.forms[form as usize] += 1;
+        let codes = u32::from(make::has_codes(text)) + u32::from(series.codes != series.accounts);
+        self.columns[library_form(series.form).number() as usize][codes as usize] += 1;
     }
 
     fn print(&self) {
-        let [exercised, draw, accounts, shorts, coded @ ..] = self.zeros;
+        let [exercised, draw, accounts, numbers, coded @ ..] = self.zeros;
         println!(
-            "whole texts with leading zeros: in S {exercised}, draw {draw}, accounts {accounts}, shorts {shorts}; \
+            "whole texts with leading zeros: in S {exercised}, draw {draw}, accounts {accounts}, numbers {numbers}; \
              every number in ten digits {}; no leading zero {}",
             self.all_in_ten, self.none
         );
-        println!("whole texts with codes and leading zeros: in S, draw, codes, accounts, shorts {coded:?}");
-        let [without, left_out, written] = self.forms;
-        println!(
-            "whole texts: {without} without codes, {left_out} with codes that are the accounts, {written} with others"
-        );
+        println!("whole texts with codes and leading zeros: in S, draw, codes, accounts, numbers {coded:?}");
+        for (form, [without, left_out, written]) in FORMS.into_iter().zip(self.columns) {
+            println!(
+                "whole texts, {form:?}: {without} without codes, {left_out} with codes that are the accounts, {written} \
+                 with others"
+            );
+        }
+    }
+}
+
+// How many texts reading and changing refuse by each number.
+#[derive(Default)]
+struct Refusals {
+    reading: [u32; 21],
+    changing: [u32; 21],
+}
+
+impl Refusals {
+    fn add(&mut self, text: &[u8]) {
+        let met = |answer: Option<u32>| answer.unwrap_or(0) as usize;
+        self.reading[met(reference::read_text(text).err())] += 1;
+        self.changing[met(reference::change(text, usize::MAX).err())] += 1;
+    }
+
+    fn print(&self) {
+        let shown = |met: &[u32; 21]| {
+            let met = (1..).zip(&met[1..]).filter(|(_, &texts)| texts > 0);
+            met.map(|(number, texts)| format!("{number}: {texts}")).collect::<Vec<_>>().join(", ")
+        };
+        println!("texts refused in reading by {}", shown(&self.reading));
+        println!("texts refused in changing by {}", shown(&self.changing));
     }
 }
 
 #[test]
 fn random_texts() {
     let mut random = Random::new(0x7E87_0001);
-    let mut reading = Count::new("texts read");
-    let mut writing = Count::new("texts written");
-    let mut responding = Count::new("texts responded to");
+    let mut counts = Counts {
+        reading: Count::new("texts read"),
+        writing: Count::new("texts written"),
+        changing: Count::new("texts changed"),
+        responding: Count::new("texts responded to"),
+    };
     let (mut whole, mut damaged, mut ranged) = (0, 0, 0);
     let mut spellings = Spellings::default();
-    let mut met = [0; 16];
+    let mut refusals = Refusals::default();
     while whole + damaged < 45_000 {
         let lines = make::lines(&mut random);
         let mut text = make::text(&mut random, lines);
@@ -121,42 +167,44 @@ fn random_texts() {
             }
             damaged += 1;
         }
-        match reference::read_text(&text) {
-            Ok(series) => {
-                ranged += u32::from(series.method == b'R' && reference::printed(&text).starts_with(b"account"))
-            }
-            Err(number) => met[number as usize] += 1,
-        }
-        through(&mut random, &text, &mut reading, &mut writing, &mut responding);
+        refusals.add(&text);
+        let under_r = reference::read_text(&text).is_ok_and(|series| series.method == b'R');
+        ranged += u32::from(under_r && reference::printed(&text).starts_with(b"account"));
+        through(&mut random, &text, &mut counts);
     }
-    println!(
-        "texts: {whole} whole, {damaged} damaged, {ranged} print ranges; refusals met: 11 {}, 12 {}, 13 {}, 14 {}, \
-         15 {}",
-        met[11], met[12], met[13], met[14], met[15]
-    );
-    assert!(met[11..].iter().all(|&n| n > 50) && ranged > 1_000);
+    println!("texts: {whole} whole, {damaged} damaged, {ranged} print ranges");
+    refusals.print();
+    assert!(ranged > 1_000);
+    assert!([11, 12, 13, 14, 15].iter().all(|&number| refusals.reading[number] > 50));
+    assert!([0, 3, 5, 6, 7, 11, 12, 13, 14, 15, 19, 20].iter().all(|&number| refusals.changing[number] > 50));
     spellings.print();
-    let Spellings { zeros, none, all_in_ten, forms } = spellings;
-    assert!(zeros.into_iter().chain([none, all_in_ten]).chain(forms).all(|n| n > 1_000));
-    reading.print();
-    writing.print();
-    responding.print();
+    let Spellings { zeros, none, all_in_ten, columns } = spellings;
+    assert!(zeros.into_iter().chain([none, all_in_ten]).chain(columns.into_iter().flatten()).all(|n| n > 1_000));
+    let Counts { reading, writing, changing, responding } = counts;
+    for count in [&reading, &writing, &changing, &responding] {
+        count.print();
+    }
     assert!(!responding.undrawn().contains(&0));
 }
 
 const M: &[u8] = b"method,exercised,draw\nL,13,4855\naccount,short\n1,5\n2,8\n3,2\n4,10\n5,11\n";
 const CODED: &[u8] = b"method,exercised,draw\nW,13,4\ncode,account,short\n3,21,6\n7,4,20\n12,11,9\n";
 const RANGED: &[u8] = b"method,exercised,draw\nR,13,49\naccount,short\n1,5\n20,8\n300,12\n";
+const LASTS: &[u8] = b"method,exercised,draw\nR,13,49\naccount,last\n1,5\n20,13\n300,25\n";
+const CODED_LASTS: &[u8] = b"method,exercised,draw\nW,13,4\ncode,account,last\n3,21,6\n7,4,26\n12,11,35\n";
+const TEXTS: [&[u8]; 5] = [M, CODED, RANGED, LASTS, CODED_LASTS];
 
 #[test]
 fn cut_at_every_place() {
     let mut count = Count::new("texts cut");
-    for text in [M, CODED, RANGED] {
+    for text in TEXTS {
         for end in 0..=text.len() {
             for start in [0, 1, 22] {
                 let part = &text[start.min(end)..end];
                 count.case(compare::read(part, [5; 3]));
                 count.case(compare::read(part, [1, 1, 0]));
+                count.case(compare::change(part, 100));
+                count.case(compare::change(part, 50));
                 count.case(compare::respond(part, 300));
             }
         }
@@ -167,6 +215,7 @@ fn cut_at_every_place() {
 fn every_byte_at(count: &mut Count, text: &[u8], at: usize) {
     let mut run = |text: &[u8]| {
         count.case(compare::read(text, [6; 3]));
+        count.case(compare::change(text, 100));
         count.case(compare::respond(text, 300));
     };
     for byte in 0..=255 {
@@ -183,7 +232,7 @@ fn every_byte_at(count: &mut Count, text: &[u8], at: usize) {
 #[test]
 fn every_byte_at_every_place() {
     let mut count = Count::new("texts with one byte changed, put in or removed");
-    for text in [M, CODED, RANGED] {
+    for text in TEXTS {
         for at in 0..=text.len() {
             every_byte_at(&mut count, text, at);
         }
@@ -191,12 +240,13 @@ fn every_byte_at_every_place() {
     count.print();
 }
 
-// Line 3 in the two forms, and lines that are nearly one of them, over position lines with two, three and four numbers.
+// Each line 3, and lines that are nearly one, over position lines with two, three and four numbers.
 #[test]
 fn names_lines_and_columns() {
     let mut count = Count::new("names lines and columns");
-    let columns = ["code", "account", "short", "codes", "Code", "", " ", "code "];
-    let mut names = vec!["code,account,short\r\n".to_string(), "code,account,short".to_string()];
+    let columns = ["code", "account", "short", "last", "codes", "Code", "Last", "lasts", "", " ", "code "];
+    let mut names =
+        ["code,account,short\r\n", "code,account,short", "account,last\r\n", "account,last"].map(String::from).to_vec();
     for a in columns {
         names.push(format!("{a}\n"));
         for b in columns {
@@ -212,12 +262,13 @@ fn names_lines_and_columns() {
         for lines in ["", "5\n", "1,5\n", "1,2,5\n", "1,2,3,5\n", "1,2,5\n3,4\n", "1,5\n3,4,5\n", "2,1,5\n3,2,5\n"] {
             let text = format!("method,exercised,draw\nW,1,1\n{line_3}{lines}");
             exact += u32::from(count.case(compare::read(text.as_bytes(), [4; 3])));
+            count.case(compare::change(text.as_bytes(), 60));
             count.case(compare::respond(text.as_bytes(), 60));
         }
     }
     count.print();
-    // Either form with no line; two numbers in one line; three in one, and in two.
-    assert_eq!(exact, 2 + 1 + 2);
+    // In either form: with codes and without no line; two numbers in one line; three in one, and in two.
+    assert_eq!(exact, 2 * (2 + 1 + 2));
 }
 
 // Numbers well and badly spelled, and what is none.
@@ -309,33 +360,40 @@ fn numbers_in_every_field() {
             ("W,1,5\ncode,account,short\n9,2,", "\n"),
         ] {
             let text = ["method,exercised,draw\n", before, number, after].concat();
-            count.case(compare::read(text.as_bytes(), [4; 3]));
-            count.case(compare::read(text.as_bytes(), [4, 0, 4]));
-            count.case(compare::respond(text.as_bytes(), 200));
+            for text in [text.replace("short", "last"), text] {
+                count.case(compare::read(text.as_bytes(), [4; 3]));
+                count.case(compare::read(text.as_bytes(), [4, 0, 4]));
+                count.case(compare::change(text.as_bytes(), 100));
+                count.case(compare::respond(text.as_bytes(), 200));
+            }
         }
     }
     count.print();
 }
 
 // What the library reads for a number in a field of a text.
-fn read_in_field(field: usize, number: &str) -> Result<u32, Refused> {
-    let ([mut codes, mut accounts, mut shorts], text) = ([[0]; 3], make::in_field(field, number));
-    let terms = dilbreth::read(&text, &mut codes, &mut accounts, &mut shorts)?;
+fn read_in_field(form: Form, field: usize, number: &str) -> Result<u32, Refused> {
+    let ([mut codes, mut accounts, mut numbers], text) = ([[0]; 3], make::in_field(form, field, number));
+    let terms = dilbreth::read(&text, &mut codes, &mut accounts, &mut numbers)?;
+    assert_eq!(terms.form, library_form(form));
     if !make::has_codes(&text) {
         assert_eq!(codes, accounts);
     }
     let (exercised, draw) = (terms.exercised, terms.draw);
-    let found = [exercised, draw, accounts[0], shorts[0], exercised, draw, codes[0], accounts[0], shorts[0]];
+    let found = [exercised, draw, accounts[0], numbers[0], exercised, draw, codes[0], accounts[0], numbers[0]];
     Ok(found[field])
 }
 
 fn in_every_field(count: &mut Count, number: &str, expected: Result<u32, Refused>) {
-    for field in 0..make::FIELDS {
-        assert_eq!(read_in_field(field, number), expected, "{number} in field {field}");
-        let text = make::in_field(field, number);
-        count.case(compare::read(&text, [1; 3]));
-        count.case(compare::read(&text, [0, 1, 1]));
-        count.case(compare::respond(&text, 60));
+    for form in FORMS {
+        for field in 0..make::FIELDS {
+            assert_eq!(read_in_field(form, field, number), expected, "{number} in field {field}, {form:?}");
+            let text = make::in_field(form, field, number);
+            count.case(compare::read(&text, [1; 3]));
+            count.case(compare::read(&text, [0, 1, 1]));
+            count.case(compare::change(&text, 100));
+            count.case(compare::respond(&text, 60));
+        }
     }
 }
 
@@ -373,11 +431,13 @@ fn respond(text: &[u8]) -> String {
 
 #[test]
 fn zero_in_every_spelling() {
-    for (field, refusal) in [8, 10, 5, 6, 8, 10, 5, 19, 6].into_iter().enumerate() {
-        for digits in 1..=12 {
-            let text = make::in_field(field, &"0".repeat(digits));
-            let number = if digits <= 10 { refusal } else { 13 };
-            assert_eq!(respond(&text), format!("refused\n{number}\n"), "{digits} digits in field {field}");
+    for (form, none) in FORMS.into_iter().zip([6, 20]) {
+        for (field, refusal) in [8, 10, 5, none, 8, 10, 5, 19, none].into_iter().enumerate() {
+            for digits in 1..=12 {
+                let text = make::in_field(form, field, &"0".repeat(digits));
+                let number = if digits <= 10 { refusal } else { 13 };
+                assert_eq!(respond(&text), format!("refused\n{number}\n"), "{digits} digits in field {field}");
+            }
         }
     }
 }
@@ -389,8 +449,10 @@ fn spelling_changes_no_answer() {
     accounts.extend([99, 100, 65_536, 10_000_000, 999_999_999, 1_000_000_000, u32::MAX]);
     let shorts = make::upward(accounts.len());
     let codes: Vec<u32> = shorts.iter().map(|n| n * n * n).collect();
-    for (method, coded) in make::METHODS.into_iter().flat_map(|method| [(method, false), (method, true)]) {
-        let list = List { codes: if coded { &codes } else { &accounts }, accounts: &accounts, shorts: &shorts };
+    let lists = FORMS.map(|form| Series::by_account(accounts.clone(), shorts.clone()).in_form(form));
+    let kinds = make::METHODS.into_iter().flat_map(|method| [(method, false), (method, true)]);
+    for ((method, coded), list) in kinds.flat_map(|kind| lists.each_ref().map(|list| (kind, list))) {
+        let list = List { codes: if coded { &codes } else { &accounts }, ..list.list() };
         let text = reference::write(method, 60, 7, list, usize::MAX).unwrap();
         let printed = respond(&text);
         assert!(printed.starts_with("account,assigned\n1,"));
@@ -402,6 +464,7 @@ fn spelling_changes_no_answer() {
             for other in [in_accounts, make::spelled(&text, width), make::spelled(&text, |_, _| turn + 1)] {
                 assert_eq!(respond(&other), printed, "{}", String::from_utf8_lossy(&other));
                 count.case(compare::read(&other, [accounts.len(); 3]));
+                count.case(compare::change(&other, 2 * text.len()));
                 count.case(compare::respond(&other, printed.len()));
             }
         }
@@ -409,12 +472,19 @@ fn spelling_changes_no_answer() {
     count.print();
 }
 
-// Two positions, whose lines begin with what is given.
-fn respond_to_pair(count: &mut Count, terms: &str, names: &str, first: &str, second: &str) -> String {
-    let text = format!("method,exercised,draw\n{terms}\n{names}\n{first},3\n{second},4\n");
-    let printed = respond(text.as_bytes());
-    count.case(compare::read(text.as_bytes(), [2; 3]));
-    count.case(compare::respond(text.as_bytes(), printed.len()));
+// Two positions, whose lines begin with what is given, with 3 and 4 contracts; by last numbers the same is printed.
+fn respond_to_pair(count: &mut Count, terms: &str, coded: bool, first: &str, second: &str) -> String {
+    let [printed, by_last] = FORMS.map(|form| {
+        let last = if form == Form::Shorts { 4 } else { 7 };
+        let names = make::names(coded, form);
+        let text = format!("method,exercised,draw\n{terms}\n{names}{first},3\n{second},{last}\n");
+        let printed = respond(text.as_bytes());
+        count.case(compare::read(text.as_bytes(), [2; 3]));
+        count.case(compare::change(text.as_bytes(), 100));
+        count.case(compare::respond(text.as_bytes(), printed.len()));
+        printed
+    });
+    assert_eq!(printed, by_last);
     printed
 }
 
@@ -434,15 +504,14 @@ fn pairs(mut run: impl FnMut(u32, u32, &str, &str, &str)) {
 #[test]
 fn two_spellings_are_one_account() {
     let mut count = Count::new("accounts in two spellings");
-    let names = "account,short";
     pairs(|account, above, one, same, next| {
         let rising = format!("account,assigned\n{account},0\n{above},1\n");
         let ranges = format!("account,first,last,first2,last2\n{account},1,3,8,10\n{above},4,7,11,14\n");
         for terms in ["W,1,7", "P,1,0", "L,1,10000", "R,1,4294967291"] {
             let expected = if terms.starts_with('R') { format!("{rising}{ranges}") } else { rising.clone() };
-            assert_eq!(respond_to_pair(&mut count, terms, names, one, next), expected, "{terms} {one} {next}");
+            assert_eq!(respond_to_pair(&mut count, terms, false, one, next), expected, "{terms} {one} {next}");
             for (first, second) in [(one, same), (next, one)] {
-                let found = respond_to_pair(&mut count, terms, names, first, second);
+                let found = respond_to_pair(&mut count, terms, false, first, second);
                 assert_eq!(found, "refused\n5\n", "{terms} {first} {second}");
             }
         }
@@ -454,8 +523,7 @@ fn two_spellings_are_one_account() {
 fn two_spellings_are_one_code() {
     let mut count = Count::new("codes in two spellings");
     pairs(|number, above, one, same, next| {
-        let mut wheel =
-            |first: &str, second: &str| respond_to_pair(&mut count, "W,1,7", "code,account,short", first, second);
+        let mut wheel = |first: &str, second: &str| respond_to_pair(&mut count, "W,1,7", true, first, second);
         // As codes over accounts that fall, and as accounts.
         let code = |number: &str, account: u32| format!("{number},{account}");
         assert_eq!(wheel(&code(one, 8), &code(next, 7)), "account,assigned\n8,0\n7,1\n", "{one} {next}");
@@ -488,11 +556,16 @@ fn lines_at_the_limit(count: &mut Count, head: &[u8], lines: usize, line: impl F
         for room in [0, needed - 1, needed, needed + 3] {
             count.case(compare::respond(&text, room));
         }
+        let needed = reference::change(&text, usize::MAX).map_or(60, |changed| changed.len());
+        for room in [0, needed - 1, needed, needed + 3] {
+            count.case(compare::change(&text, room));
+        }
     }
     let (good, bad) = (line(5), line(5).replace('\n', ",\n"));
     for at in [lines.saturating_sub(1), lines / 2] {
         let text = [head, good.repeat(at).as_bytes(), bad.as_bytes(), good.repeat(lines - at).as_bytes()].concat();
         count.case(compare::read(&text, [1_025; 3]));
+        count.case(compare::change(&text, 40_000));
         count.case(compare::respond(&text, 20));
     }
 }
@@ -503,11 +576,15 @@ fn lines_and_bytes_at_the_limit() {
     let head = b"method,exercised,draw\nW,26,7\naccount,short\n";
     let coded = b"method,exercised,draw\nW,26,7\ncode,account,short\n";
     let ranged = b"method,exercised,draw\nR,26,7\naccount,short\n";
+    let lasts = b"method,exercised,draw\nL,26,7\naccount,last\n";
+    let coded_lasts = b"method,exercised,draw\nW,26,7\ncode,account,last\n";
     for lines in [0, 1, 1_023, 1_024, 1_025, 1_026, 2_000] {
         lines_at_the_limit(&mut count, head, lines, |account| format!("{account},3\n"));
         lines_at_the_limit(&mut count, ranged, lines, |account| format!("{account},3\n"));
         lines_at_the_limit(&mut count, coded, lines, |code| format!("{code},{},3\n", 10_000 - code));
         lines_at_the_limit(&mut count, coded, lines, |code| format!("{code},{code},3\n"));
+        lines_at_the_limit(&mut count, lasts, lines, |account| format!("{account},{}\n", 3 * account));
+        lines_at_the_limit(&mut count, coded_lasts, lines, |code| format!("{code},{},{code}\n", 10_000 - code));
     }
     for length in [32_766, 32_767, 32_768, 32_769, 32_770, 40_000, 65_536, 65_537, 100_000, 1_000_000] {
         for fill in [b'x', b'0', b'9', b'\n', b',', 0] {
@@ -517,6 +594,8 @@ fn lines_and_bytes_at_the_limit() {
                 b"method,exercised,draw\nW,1,",
                 head,
                 coded,
+                lasts,
+                b"method,exercised,draw\nW,26,7\naccount,last\n1,3\n2,",
                 b"method,exercised,draw\nW,26,7\naccount,short\n1,3\n2,",
                 b"method,exercised,draw\nW,26,7\ncode,account,short\n1,2,3\n2,",
                 &M[..60],
@@ -525,6 +604,7 @@ fn lines_and_bytes_at_the_limit() {
                 text.resize(length, fill);
                 count.case(compare::read(&text, [1_024; 3]));
                 count.case(compare::read(&text, [0; 3]));
+                count.case(compare::change(&text, 20));
                 count.case(compare::respond(&text, 20));
                 count.case(compare::respond(&text, 9));
             }
@@ -537,15 +617,16 @@ fn lines_and_bytes_at_the_limit() {
 #[test]
 fn exactly_32_768_bytes() {
     let mut count = Count::new("texts of about 32,768 bytes");
-    for length in 32_766..=32_770 {
+    for (form, length) in FORMS.into_iter().flat_map(|form| (32_766..=32_770).map(move |length| (form, length))) {
         let fits = length <= 32_768;
-        let text = make::text_of_length(length);
+        let text = make::text_of_length(form, length);
         assert_eq!((text.len(), make::has_codes(&text)), (length, true));
         assert_eq!(count.case(compare::read(&text, [1_024; 3])), fits);
         assert!(!count.case(compare::read(&text, [1_023, 1_024, 1_024])));
         assert_eq!(respond(&text).starts_with("account,assigned\n"), fits);
+        assert_eq!(count.case(compare::change(&text, 32_768)), fits);
         count.case(compare::respond(&text, 32_768));
-        let series = make::list_of_length(length);
+        let series = make::list_of_length(form, length);
         for method in make::METHODS {
             for room in [0, 100, 32_766, 32_767, 32_768, 32_769, 32_770, 40_000] {
                 let written = count.case(compare::write(method, 1, 1, series.list(), room));
@@ -573,7 +654,7 @@ fn three_lists(random: &mut Random, lengths: [usize; 3]) -> Series {
         3 => random.spread(u64::from(u32::MAX)) as u32,
         _ => random.bits() as u32,
     };
-    let [mut codes, accounts, shorts] = lengths.map(|length| (0..length).map(|_| number()).collect::<Vec<u32>>());
+    let [mut codes, accounts, numbers] = lengths.map(|length| (0..length).map(|_| number()).collect::<Vec<u32>>());
     if random.one_in(3) {
         codes = accounts.clone();
     }
@@ -581,7 +662,7 @@ fn three_lists(random: &mut Random, lengths: [usize; 3]) -> Series {
         let at = random.index(codes.len());
         codes[at] ^= 1;
     }
-    Series { codes, accounts, shorts }
+    Series { form: random.pick(&FORMS), codes, accounts, numbers }
 }
 
 #[test]

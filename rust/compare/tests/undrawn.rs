@@ -1,9 +1,9 @@
 // Series that need no draw (S equal to T under W, L and R, one position under L and R), and the calls next to them.
 
 use compare::make::{self, Series};
-use compare::program::{self, Feed};
+use compare::program::{Feed, Program};
 use compare::random::Random;
-use compare::{cases, Count};
+use compare::{cases, Count, FORMS};
 use reference::Allocation;
 
 // S around 0 and T, and draws in and out of range.
@@ -15,11 +15,14 @@ fn terms(list: &Series) -> Vec<(u32, u32)> {
         .collect()
 }
 
-// Each list under each method, with codes that it takes.
+// Each list under each method, with codes that it takes, in either form.
 fn of_each_method(random: &mut Random, lists: &[Series]) -> Vec<(u8, Series)> {
     let mut all = Vec::new();
     for list in lists {
-        all.extend(make::METHODS.map(|method| (method, make::coded(random, method, list))));
+        all.extend(make::METHODS.map(|method| {
+            let form = random.pick(&FORMS);
+            (method, make::coded(random, method, list).in_form(form))
+        }));
     }
     all
 }
@@ -46,7 +49,7 @@ fn allocating() {
     }
     for (method, list) in of_each_method(&mut random, &lists) {
         for (exercised, draw) in terms(&list) {
-            count.allocate(method, list.list(), exercised, draw, list.shorts.len() + 1);
+            count.allocate(method, list.list(), exercised, draw, list.numbers.len() + 1);
         }
     }
     count.print();
@@ -62,7 +65,7 @@ fn texts(what: &'static str, seed: u64, lists: usize, run: impl Fn(&[u8]) -> Res
         for (exercised, draw) in terms(&list) {
             let text = reference::write(method, exercised, draw, list.list(), usize::MAX);
             if count.case(run(&text.expect("a text"))) {
-                count.allocated(method, &list.shorts, exercised, draw);
+                count.allocated(method, list.list(), exercised, draw);
             }
         }
     }
@@ -82,7 +85,7 @@ fn responding() {
 
 #[test]
 fn running_the_program() {
-    texts("no draw needed, program", 0xD4A3_0003, 6, |text| program::compare(text, Feed::Pipe));
+    texts("no draw needed, program", 0xD4A3_0003, 6, |text| Program::Assign.compare(text, Feed::Pipe));
 }
 
 // The answer as it was before: the draw is judged before anything is decided. Under R, where there was none, the answer
@@ -90,10 +93,11 @@ fn running_the_program() {
 fn before(method: u8, list: &Series, exercised: u32, draw: u32, room: usize) -> Result<Allocation, u32> {
     let total = reference::judge(method, list.list(), exercised, room)?;
     reference::judge_draw(method, total, draw)?;
+    let shorts = list.list().shorts();
     let (amounts, further) = if method == b'W' && exercised == total {
-        (list.shorts.clone(), 0)
+        (shorts, 0)
     } else {
-        reference::by_draw(method, &list.shorts, total, exercised, draw)
+        reference::by_draw(method, &shorts, total, exercised, draw)
     };
     Ok(Allocation { amounts, total, further })
 }
@@ -105,11 +109,11 @@ fn hold(method: u8, list: &Series, exercised: u32, draw: u32, room: usize) -> us
     let after = reference::allocate(method, list.list(), exercised, draw, room);
     let whole = u64::from(exercised) == list.total();
     let placed = b"LR".contains(&method);
-    let one = placed && list.shorts.len() == 1;
+    let one = placed && list.numbers.len() == 1;
     let expected = match before.clone() {
         Ok(a) if placed && (whole || one) => Ok(Allocation { further: 0, ..a }),
-        Err(10) if whole => Ok(Allocation { amounts: list.shorts.clone(), total: exercised, further: 0 }),
-        Err(10) if one => Ok(Allocation { amounts: vec![exercised], total: list.shorts[0], further: 0 }),
+        Err(10) if whole => Ok(Allocation { amounts: list.list().shorts(), total: exercised, further: 0 }),
+        Err(10) if one => Ok(Allocation { amounts: vec![exercised], total: list.numbers[0], further: 0 }),
         other => other,
     };
     assert_eq!(after, expected, "{}", cases::allocate(method, list.list(), exercised, draw, room));
@@ -126,7 +130,7 @@ fn before_and_after() {
             for method in *b"WPLRX" {
                 for exercised in 0..=total + 1 {
                     for &draw in &draws {
-                        change[hold(method, &list, exercised, draw, list.shorts.len())] += 1;
+                        change[hold(method, &list, exercised, draw, list.numbers.len())] += 1;
                     }
                 }
             }

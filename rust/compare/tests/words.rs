@@ -2,7 +2,7 @@
 
 use compare::make::METHODS;
 use compare::Count;
-use dilbreth::{Day, Method};
+use dilbreth::{Day, Form, Method};
 
 const README: &str = include_str!("../../../README.md");
 const HEADER: &str = include_str!("../../../include/dilbreth.h");
@@ -34,7 +34,7 @@ fn header_constant(name: &str) -> u32 {
 
 #[test]
 fn tables_show_the_words() {
-    let words: Vec<(u32, String)> = (1..=19).map(|number| (number, dilbreth::explain(number))).collect();
+    let words: Vec<(u32, String)> = (1..=20).map(|number| (number, dilbreth::explain(number))).collect();
     assert_eq!(readme_table(), words);
     assert_eq!(header_table(), words);
 }
@@ -77,11 +77,13 @@ fn one_letter_for_each_method() {
     assert_eq!((0..=255).filter(|&byte| Method::from_byte(byte).is_some()).count(), METHODS.len());
 }
 
-// What the header says is always enough for what `assign` prints.
+// What the header says is always enough for what `assign` prints, and for a changed text.
 #[test]
-fn room_for_all_that_is_printed() {
-    assert_eq!(reference::MOST_PRINTED, 70_705);
-    assert!(HEADER.contains("the length of output (70,705 is always enough)"));
+fn room_for_all_that_is_written() {
+    assert_eq!((reference::MOST_PRINTED, reference::MOST_CHANGED), (70_705, 31_809));
+    for length in ["70,705", "31,809"] {
+        assert!(HEADER.contains(&format!("the length of output ({length} is always enough)")));
+    }
 }
 
 // The constants that the header, the Pascal unit and the Rust wrapper each have.
@@ -90,7 +92,21 @@ fn one_version() {
     assert_eq!(header_constant("DILBRETH_VERSION"), dilbreth::VERSION);
     assert_eq!(header_constant("DILBRETH_ORDINARY_DAY"), Day::Ordinary.number());
     assert_eq!(header_constant("DILBRETH_FINAL_DAY"), Day::Final.number());
-    let names = ["DILBRETH_VERSION", "DILBRETH_ORDINARY_DAY", "DILBRETH_FINAL_DAY", "DILBRETH_LONGEST_EXPLANATION"];
+    for (name, form) in [("DILBRETH_SHORTS", Form::Shorts), ("DILBRETH_LAST_NUMBERS", Form::LastNumbers)] {
+        assert_eq!(header_constant(name), form.number());
+        assert_eq!(Form::from_number(form.number()), form);
+    }
+    for number in [2, 255, 256, 65_536, 1 << 31, u32::MAX] {
+        assert_eq!(Form::from_number(number), Form::LastNumbers);
+    }
+    let names = [
+        "DILBRETH_VERSION",
+        "DILBRETH_SHORTS",
+        "DILBRETH_LAST_NUMBERS",
+        "DILBRETH_ORDINARY_DAY",
+        "DILBRETH_FINAL_DAY",
+        "DILBRETH_LONGEST_EXPLANATION",
+    ];
     for name in names {
         let line = format!("  {name} = {};\n", header_constant(name));
         assert!(UNIT.contains(&line), "include/dilbreth.pas has no {line:?}");

@@ -1,6 +1,8 @@
 // The safe wrapper, by the series with known amounts, the exhibit and the circular's days.
 
-use dilbreth::{AfterDay, Allocated, Day, Investor, MarketMaker, Method, Refused, Terms};
+use dilbreth::{AfterDay, Allocated, Day, Form, Investor, MarketMaker, Method, Refused, Terms};
+
+const FORMS: [Form; 2] = [Form::Shorts, Form::LastNumbers];
 
 type Known = (Method, &'static [u32], u32, u32, &'static [u32], u32);
 
@@ -37,17 +39,23 @@ fn series_with_known_amounts() {
     for (method, shorts, exercised, draw, expected, further) in KNOWN {
         let accounts: Vec<u32> = (1..=shorts.len() as u32).collect();
         let mut amounts = vec![9; shorts.len() + 1];
-        let answer = dilbreth::allocate(method, &accounts, &accounts, shorts, exercised, draw, &mut amounts);
-        assert_eq!(answer, Ok(Allocated { total: shorts.iter().sum(), further }));
-        assert_eq!(amounts[..shorts.len()], *expected);
-        assert_eq!(amounts[shorts.len()], 9);
+        let lasts: Vec<u32> = (1..=shorts.len()).map(|count| shorts[..count].iter().sum()).collect();
+        let total = lasts[lasts.len() - 1];
+        for (form, numbers) in [(Form::Shorts, shorts), (Form::LastNumbers, &lasts)] {
+            amounts.fill(9);
+            let answer = dilbreth::allocate(method, form, &accounts, &accounts, numbers, exercised, draw, &mut amounts);
+            assert_eq!(answer, Ok(Allocated { total, further }));
+            assert_eq!(amounts[..shorts.len()], *expected);
+            assert_eq!(amounts[shorts.len()], 9);
+        }
         // W by codes with the accounts falling, the others without a code.
         let (codes, accounts) = match method {
             Method::Wheel => (accounts.clone(), accounts.iter().rev().map(|account| account * 10).collect()),
             _ => (vec![], accounts),
         };
         amounts.fill(9);
-        assert_eq!(dilbreth::allocate(method, &codes, &accounts, shorts, exercised, draw, &mut amounts), answer);
+        let answer = dilbreth::allocate(method, Form::Shorts, &codes, &accounts, shorts, exercised, draw, &mut amounts);
+        assert_eq!(answer, Ok(Allocated { total, further }));
         assert_eq!(amounts[..shorts.len()], *expected);
     }
 }
@@ -57,11 +65,12 @@ fn case_m_in_full() {
     let text = b"method,exercised,draw\nL,13,4855\naccount,short\n1,5\n2,8\n3,2\n4,10\n5,11\n";
     let (mut codes, mut accounts, mut shorts) = ([0; 6], [0; 6], [0; 6]);
     let terms = dilbreth::read(text, &mut codes, &mut accounts, &mut shorts).unwrap();
-    assert_eq!(terms, Terms { method: Method::Lottery, exercised: 13, draw: 4855, positions: 5 });
+    assert_eq!(terms, Terms { method: Method::Lottery, exercised: 13, draw: 4855, form: Form::Shorts, positions: 5 });
     assert_eq!((codes, accounts, shorts), ([1, 2, 3, 4, 5, 0], [1, 2, 3, 4, 5, 0], [5, 8, 2, 10, 11, 0]));
     let mut bytes = [0; 100];
     let length =
-        dilbreth::write(terms.method, 13, 4855, &codes[..5], &accounts[..5], &shorts[..5], &mut bytes).unwrap();
+        dilbreth::write(terms.method, 13, 4855, terms.form, &codes[..5], &accounts[..5], &shorts[..5], &mut bytes)
+            .unwrap();
     assert_eq!(bytes[..length], text[..]);
     let length = dilbreth::respond(text, &mut bytes).unwrap();
     assert_eq!(&bytes[..length], b"account,assigned\n1,0\n2,0\n3,0\n4,8\n5,5\n");
@@ -72,10 +81,13 @@ fn the_exhibit_in_full() {
     let text = include_bytes!("../../../examples/remainder-draw.txt");
     let [mut codes, mut accounts, mut shorts] = [[0; 10]; 3];
     let terms = dilbreth::read(text, &mut codes, &mut accounts, &mut shorts).unwrap();
-    assert_eq!(terms, Terms { method: Method::RemainderDraw, exercised: 50, draw: 395, positions: 10 });
+    assert_eq!(
+        terms,
+        Terms { method: Method::RemainderDraw, exercised: 50, draw: 395, form: Form::Shorts, positions: 10 }
+    );
     assert_eq!((codes, accounts, shorts), (accounts, [1, 2, 3, 4, 5, 6, 7, 8, 9, 10], EXHIBIT));
     let mut bytes = [0; 500];
-    let length = dilbreth::write(terms.method, 50, 395, &codes, &accounts, &shorts, &mut bytes).unwrap();
+    let length = dilbreth::write(terms.method, 50, 395, terms.form, &codes, &accounts, &shorts, &mut bytes).unwrap();
     assert_eq!(bytes[..length], text[..]);
     let printed = include_bytes!("../../../examples/remainder-draw.out");
     let length = dilbreth::respond(text, &mut bytes).unwrap();
@@ -89,13 +101,13 @@ fn codes() {
     let text = b"method,exercised,draw\nW,175,340\ncode,account,short\n3,21,60\n7,4,200\n9,11,95\n";
     let (mut codes, mut accounts, mut shorts) = ([0; 3], [0; 3], [0; 3]);
     let terms = dilbreth::read(text, &mut codes, &mut accounts, &mut shorts).unwrap();
-    assert_eq!(terms, Terms { method: Method::Wheel, exercised: 175, draw: 340, positions: 3 });
+    assert_eq!(terms, Terms { method: Method::Wheel, exercised: 175, draw: 340, form: Form::Shorts, positions: 3 });
     assert_eq!((codes, accounts, shorts), ([3, 7, 9], [21, 4, 11], [60, 200, 95]));
     assert_eq!(dilbreth::read(text, &mut [0; 2], &mut accounts, &mut shorts), Err(Refused(4)));
     let mut bytes = [0; 100];
-    let length = dilbreth::write(terms.method, 175, 340, &codes, &accounts, &shorts, &mut bytes).unwrap();
+    let length = dilbreth::write(terms.method, 175, 340, terms.form, &codes, &accounts, &shorts, &mut bytes).unwrap();
     assert_eq!(bytes[..length], text[..]);
-    let length = dilbreth::write(terms.method, 175, 340, &codes, &codes, &shorts, &mut bytes).unwrap();
+    let length = dilbreth::write(terms.method, 175, 340, terms.form, &codes, &codes, &shorts, &mut bytes).unwrap();
     assert_eq!(&bytes[..length], b"method,exercised,draw\nW,175,340\naccount,short\n3,60\n7,200\n9,95\n");
     let length = dilbreth::respond(text, &mut bytes).unwrap();
     assert_eq!(&bytes[..length], b"account,assigned\n21,34\n4,98\n11,43\n");
@@ -108,10 +120,10 @@ fn leading_zeros() {
     assert_eq!(dilbreth::read(text, &mut codes, &mut accounts, &mut shorts), Err(Refused(13)));
     let text = b"method,exercised,draw\nL,0000000013,04855\naccount,short\n0001,0036\n4294967295,0000000000\n";
     let terms = dilbreth::read(text, &mut codes, &mut accounts, &mut shorts).unwrap();
-    assert_eq!(terms, Terms { method: Method::Lottery, exercised: 13, draw: 4855, positions: 2 });
+    assert_eq!(terms, Terms { method: Method::Lottery, exercised: 13, draw: 4855, form: Form::Shorts, positions: 2 });
     assert_eq!((codes, accounts, shorts), ([1, u32::MAX], [1, u32::MAX], [36, 0]));
     let mut bytes = [0; 100];
-    let length = dilbreth::write(terms.method, 13, 4855, &codes, &accounts, &shorts, &mut bytes).unwrap();
+    let length = dilbreth::write(terms.method, 13, 4855, terms.form, &codes, &accounts, &shorts, &mut bytes).unwrap();
     assert_eq!(&bytes[..length], b"method,exercised,draw\nL,13,4855\naccount,short\n1,36\n4294967295,0\n");
     let text = b"method,exercised,draw\nL,0000000013,04855\naccount,short\n0001,0036\n";
     let length = dilbreth::respond(text, &mut bytes).unwrap();
@@ -169,19 +181,53 @@ fn every_count_of_a_day() {
     assert_eq!(dilbreth::process_market_maker(Day::Ordinary, refused), Err(Refused(16)));
 }
 
+// A text of last numbers through each call, and its change; no two numbers of a position are equal.
+#[test]
+fn last_numbers() {
+    let lasts = b"method,exercised,draw\nW,175,340\ncode,account,last\n3,21,60\n7,4,260\n9,11,355\n";
+    let shorts = b"method,exercised,draw\nW,175,340\ncode,account,short\n3,21,60\n7,4,200\n9,11,95\n";
+    let (mut codes, mut accounts, mut numbers) = ([0; 3], [0; 3], [0; 3]);
+    let terms = dilbreth::read(lasts, &mut codes, &mut accounts, &mut numbers).unwrap();
+    let expected = Terms { method: Method::Wheel, exercised: 175, draw: 340, form: Form::LastNumbers, positions: 3 };
+    assert_eq!(terms, expected);
+    assert_eq!((codes, accounts, numbers), ([3, 7, 9], [21, 4, 11], [60, 260, 355]));
+    let mut bytes = [0; 100];
+    let length = dilbreth::write(terms.method, 175, 340, terms.form, &codes, &accounts, &numbers, &mut bytes).unwrap();
+    assert_eq!(bytes[..length], lasts[..]);
+    for (from, to) in [(&lasts[..], &shorts[..]), (shorts, lasts)] {
+        let length = dilbreth::change(from, &mut bytes).unwrap();
+        assert_eq!(bytes[..length], to[..]);
+        assert_eq!(dilbreth::change(from, &mut bytes[..to.len() - 1]), Err(Refused(4)));
+        let length = dilbreth::respond(from, &mut bytes).unwrap();
+        assert_eq!(&bytes[..length], b"account,assigned\n21,34\n4,98\n11,43\n");
+    }
+}
+
 #[test]
 fn refusals_are_errors() {
-    assert_eq!(dilbreth::allocate(Method::Wheel, &[1], &[1], &[36], 37, 1, &mut [0]), Err(Refused(9)));
-    assert_eq!(dilbreth::allocate(Method::Wheel, &[1], &[1], &[36], 13, 0, &mut [0]), Err(Refused(10)));
-    assert_eq!(dilbreth::allocate(Method::Wheel, &[], &[1], &[36], 13, 1, &mut [0]), Err(Refused(1)));
-    assert_eq!(dilbreth::allocate(Method::Wheel, &[0], &[0], &[36], 13, 1, &mut [0]), Err(Refused(5)));
-    assert_eq!(dilbreth::allocate(Method::Wheel, &[1], &[0], &[36], 13, 1, &mut [0]), Err(Refused(19)));
-    assert_eq!(dilbreth::allocate(Method::ProRata, &[1], &[0], &[36], 13, 1, &mut [0]), Err(Refused(5)));
-    assert_eq!(dilbreth::allocate(Method::RemainderDraw, &[], &[0], &[36], 13, 1, &mut [0]), Err(Refused(5)));
-    assert_eq!(dilbreth::allocate(Method::RemainderDraw, &[], &[1], &[36], 37, 1, &mut [0]), Err(Refused(9)));
+    let refused = |method, codes: &[u32], accounts: &[u32], exercised, draw| {
+        let found = FORMS.map(|form| {
+            dilbreth::allocate(method, form, codes, accounts, &[36], exercised, draw, &mut [0]).unwrap_err().0
+        });
+        assert_eq!(found[0], found[1]);
+        found[0]
+    };
+    assert_eq!(refused(Method::Wheel, &[1], &[1], 37, 1), 9);
+    assert_eq!(refused(Method::Wheel, &[1], &[1], 13, 0), 10);
+    assert_eq!(refused(Method::Wheel, &[], &[1], 13, 1), 1);
+    assert_eq!(refused(Method::Wheel, &[0], &[0], 13, 1), 5);
+    assert_eq!(refused(Method::Wheel, &[1], &[0], 13, 1), 19);
+    assert_eq!(refused(Method::ProRata, &[1], &[0], 13, 1), 5);
+    assert_eq!(refused(Method::RemainderDraw, &[], &[0], 13, 1), 5);
+    assert_eq!(refused(Method::RemainderDraw, &[], &[1], 37, 1), 9);
+    for (form, number) in FORMS.into_iter().zip([6, 20]) {
+        let found = dilbreth::allocate(Method::ProRata, form, &[], &[1], &[0], 1, 1, &mut [0]);
+        assert_eq!(found, Err(Refused(number)));
+        assert_eq!(dilbreth::write(Method::Wheel, 1, 1, form, &[1], &[1], &[], &mut []), Err(Refused(1)));
+        assert_eq!(dilbreth::write(Method::Wheel, 1, 1, form, &[], &[1], &[1], &mut []), Err(Refused(1)));
+    }
     assert_eq!(dilbreth::read(b"", &mut [], &mut [], &mut []), Err(Refused(12)));
-    assert_eq!(dilbreth::write(Method::Wheel, 1, 1, &[1], &[1], &[], &mut []), Err(Refused(1)));
-    assert_eq!(dilbreth::write(Method::Wheel, 1, 1, &[], &[1], &[1], &mut []), Err(Refused(1)));
+    assert_eq!(dilbreth::change(b"", &mut []), Err(Refused(12)));
     assert_eq!(dilbreth::respond(b"", &mut []), Err(Refused(4)));
     assert_eq!(Refused(3).to_string(), "refused, 3: there are no positions");
 }
