@@ -1,17 +1,20 @@
 #!/usr/bin/env bash
-# The Rust tests, the C test and, where fpc is installed, the Pascal test, against the archive and the program.
+# The Rust tests, the C test and, where fpc is installed, the Pascal test, against the archive and the programs.
 # DILBRETH_LIB: the folder of libdilbreth.a (target/staticlib of the repository).
-# DILBRETH_ASSIGN: the program (target/bin/assign of the repository).
+# DILBRETH_ASSIGN: the program that assigns (target/bin/assign of the repository).
+# DILBRETH_CHANGE_FORM: the program that changes a text (target/bin/change_form of the repository).
 # DILBRETH_BUILD: where to build (build of the repository).
 set -euo pipefail
 here=$(cd "$(dirname "${BASH_SOURCE[0]}")" && pwd)
 root=$(cd "$here/.." && pwd)
 export DILBRETH_LIB=${DILBRETH_LIB:-$root/target/staticlib}
 export DILBRETH_ASSIGN=${DILBRETH_ASSIGN:-$root/target/bin/assign}
+export DILBRETH_CHANGE_FORM=${DILBRETH_CHANGE_FORM:-$root/target/bin/change_form}
 export DILBRETH_BUILD=${DILBRETH_BUILD:-$root/build}
 # cargo runs tests in another folder.
 DILBRETH_LIB=$(realpath -m "$DILBRETH_LIB")
 DILBRETH_ASSIGN=$(realpath -m "$DILBRETH_ASSIGN")
+DILBRETH_CHANGE_FORM=$(realpath -m "$DILBRETH_CHANGE_FORM")
 DILBRETH_BUILD=$(realpath -m "$DILBRETH_BUILD")
 export CARGO_TARGET_DIR=$DILBRETH_BUILD/cargo
 mkdir -p "$DILBRETH_BUILD"

@@ -1,5 +1,6 @@
-/* The archive and its header, from C: case M, starred series, series that need no draw, leading zeros, codes, the
-   exhibit of the remainder draw, the circular's days, a refusal of each call, the words for a refusal. */
+/* The archive and its header, from C: case M, starred series in both forms, series that need no draw, leading zeros,
+   codes, the exhibit of the remainder draw, last numbers and the change, the circular's days, a refusal of each call,
+   the words for a refusal. */
 #include <inttypes.h>
 #include <stdio.h>
 #include <string.h>
@@ -47,41 +48,56 @@ static const struct series KNOWN[] = {
     {"R, one", DILBRETH_REMAINDER_DRAW, 1, {36}, 13, 17, {13}, 36, 0},
 };
 
-static void known(const struct series *s)
+static void known_in(const struct series *s, uint32_t form, const uint32_t *numbers)
 {
     uint32_t amounts[6], total = 77, further = 77, number;
-    char what[32];
+    char what[64];
     size_t i;
     int holds;
 
     for (i = 0; i < 6; i++)
         amounts[i] = 999;
-    number = dilbreth_allocate(s->method, ACCOUNTS, s->count, ACCOUNTS, s->count, s->shorts, s->count, s->exercised,
+    number = dilbreth_allocate(s->method, form, ACCOUNTS, s->count, ACCOUNTS, s->count, numbers, s->count, s->exercised,
                                s->draw, amounts, 6, &total, &further);
     holds = number == 0 && total == s->total && further == s->further;
     for (i = 0; i < 6; i++)
         holds = holds && amounts[i] == (i < s->count ? s->amounts[i] : 999);
-    snprintf(what, sizeof what, "series %s", s->name);
+    snprintf(what, sizeof what, "series %s, form %" PRIu32, s->name, form);
     see(what, holds);
+}
+
+static void known(const struct series *s)
+{
+    uint32_t lasts[5] = {0}, last = 0;
+    size_t i;
+
+    for (i = 0; i < s->count; i++) {
+        last += s->shorts[i];
+        lasts[i] = last;
+    }
+    known_in(s, DILBRETH_SHORTS, s->shorts);
+    known_in(s, DILBRETH_LAST_NUMBERS, lasts);
+    known_in(s, 256, lasts);
 }
 
 static void case_m(void)
 {
     const size_t length = sizeof M - 1, printed = sizeof M_ASSIGNED - 1;
-    uint32_t codes[6] = {0}, accounts[6] = {0}, shorts[6] = {0}, exercised = 0, draw = 0;
+    uint32_t codes[6] = {0}, accounts[6] = {0}, shorts[6] = {0}, exercised = 0, draw = 0, form = 9;
     uint8_t method = 0, text[100], output[100];
     size_t positions = 0, written = 0;
 
     codes[5] = accounts[5] = shorts[5] = 999;
     see("case M read", dilbreth_read((const uint8_t *)M, length, codes, 6, accounts, 6, shorts, 6, &method,
-                                     &exercised, &draw, &positions) == 0 &&
-                           method == 'L' && exercised == 13 && draw == 4855 && positions == 5 &&
+                                     &exercised, &draw, &form, &positions) == 0 &&
+                           method == 'L' && exercised == 13 && draw == 4855 && form == DILBRETH_SHORTS &&
+                           positions == 5 &&
                            memcmp(codes, ACCOUNTS, sizeof ACCOUNTS) == 0 &&
                            memcmp(accounts, ACCOUNTS, sizeof ACCOUNTS) == 0 && shorts[0] == 5 && shorts[1] == 8 &&
                            shorts[2] == 2 && shorts[3] == 10 && shorts[4] == 11 && codes[5] == 999 &&
                            accounts[5] == 999 && shorts[5] == 999);
     memset(text, 0xEE, sizeof text);
-    see("case M written", dilbreth_write('L', 13, 4855, codes, 5, accounts, 5, shorts, 5, text, sizeof text,
+    see("case M written", dilbreth_write('L', 13, 4855, form, codes, 5, accounts, 5, shorts, 5, text, sizeof text,
                                          &written) == 0 &&
                               written == length && memcmp(text, M, length) == 0 && text[length] == 0xEE);
     memset(output, 0xEE, sizeof output);
@@ -96,20 +112,21 @@ static void leading_zeros(void)
     static const char WRITTEN[] = "method,exercised,draw\nP,4,0\naccount,short\n1,5\n12,3\n";
     static const char ELEVEN[] = "method,exercised,draw\nP,4,0\naccount,short\n00000000001,5\n";
     static const char TWICE[] = "method,exercised,draw\nP,4,0\naccount,short\n1,5\n0001,3\n";
-    uint32_t codes[2] = {0}, accounts[2] = {0}, shorts[2] = {0}, exercised = 0, draw = 9;
+    uint32_t codes[2] = {0}, accounts[2] = {0}, shorts[2] = {0}, exercised = 0, draw = 9, form = 9;
     uint8_t method = 0, text[100];
     size_t positions = 0, written = 0;
 
     see("read leading zeros", dilbreth_read((const uint8_t *)SPELLED, sizeof SPELLED - 1, codes, 2, accounts, 2, shorts,
-                                            2, &method, &exercised, &draw, &positions) == 0 &&
+                                            2, &method, &exercised, &draw, &form, &positions) == 0 &&
                                   method == 'P' && exercised == 4 && draw == 0 && positions == 2 &&
                                   accounts[0] == 1 && accounts[1] == 12 && shorts[0] == 5 && shorts[1] == 3);
     see("write no leading zeros",
-        dilbreth_write(method, exercised, draw, codes, 2, accounts, 2, shorts, 2, text, sizeof text, &written) == 0 &&
+        dilbreth_write(method, exercised, draw, form, codes, 2, accounts, 2, shorts, 2, text, sizeof text,
+                       &written) == 0 &&
             written == sizeof WRITTEN - 1 && memcmp(text, WRITTEN, written) == 0);
     see("read refuses 13 for eleven digits",
         dilbreth_read((const uint8_t *)ELEVEN, sizeof ELEVEN - 1, codes, 2, accounts, 2, shorts, 2, &method, &exercised,
-                      &draw, &positions) == 13);
+                      &draw, &form, &positions) == 13);
     see("respond with 5 to an account in two spellings",
         dilbreth_respond((const uint8_t *)TWICE, sizeof TWICE - 1, text, sizeof text, &written) == 0 &&
             written == 10 && memcmp(text, "refused\n5\n", 10) == 0);
@@ -121,36 +138,36 @@ static void by_codes(void)
         "method,exercised,draw\nW,175,1\ncode,account,short\n10,500,60\n20,700,200\n30,100,95\n";
     static const char ASSIGNED[] = "account,assigned\n500,35\n700,97\n100,43\n";
     uint32_t codes[3] = {0}, accounts[3] = {0}, shorts[3] = {0}, amounts[3] = {9, 9, 9};
-    uint32_t exercised = 0, draw = 0, total = 0, further = 0;
+    uint32_t exercised = 0, draw = 0, form = 9, total = 0, further = 0;
     uint8_t method = 0, text[100];
     size_t positions = 0, written = 0;
 
     see("read codes", dilbreth_read((const uint8_t *)CODED, sizeof CODED - 1, codes, 3, accounts, 3, shorts, 3, &method,
-                                    &exercised, &draw, &positions) == 0 &&
+                                    &exercised, &draw, &form, &positions) == 0 &&
                           method == 'W' && positions == 3 && codes[0] == 10 && codes[1] == 20 && codes[2] == 30 &&
                           accounts[0] == 500 && accounts[1] == 700 && accounts[2] == 100 && shorts[2] == 95);
-    see("allocate by codes", dilbreth_allocate(method, codes, 3, accounts, 3, shorts, 3, exercised, draw, amounts, 3,
-                                               &total, &further) == 0 &&
+    see("allocate by codes", dilbreth_allocate(method, form, codes, 3, accounts, 3, shorts, 3, exercised, draw, amounts,
+                                               3, &total, &further) == 0 &&
                                  total == 355 && further == 7 && amounts[0] == 35 && amounts[1] == 97 &&
                                  amounts[2] == 43);
-    see("write codes", dilbreth_write(method, exercised, draw, codes, 3, accounts, 3, shorts, 3, text, sizeof text,
-                                      &written) == 0 &&
+    see("write codes", dilbreth_write(method, exercised, draw, form, codes, 3, accounts, 3, shorts, 3, text,
+                                      sizeof text, &written) == 0 &&
                            written == sizeof CODED - 1 && memcmp(text, CODED, written) == 0);
     see("respond in code order",
         dilbreth_respond((const uint8_t *)CODED, sizeof CODED - 1, text, sizeof text, &written) == 0 &&
             written == sizeof ASSIGNED - 1 && memcmp(text, ASSIGNED, written) == 0);
     see("allocate refuses 1 for codes of another length under W",
-        dilbreth_allocate('W', codes, 2, accounts, 3, shorts, 3, 1, 1, amounts, 3, &total, &further) == 1);
+        dilbreth_allocate('W', form, codes, 2, accounts, 3, shorts, 3, 1, 1, amounts, 3, &total, &further) == 1);
     see("allocate refuses 5 for accounts that fall under L, with no code",
-        dilbreth_allocate('L', codes, 0, accounts, 3, shorts, 3, 1, 1, amounts, 3, &total, &further) == 5);
+        dilbreth_allocate('L', form, codes, 0, accounts, 3, shorts, 3, 1, 1, amounts, 3, &total, &further) == 5);
     accounts[2] = 500;
     see("allocate refuses 19",
-        dilbreth_allocate('W', codes, 3, accounts, 3, shorts, 3, 1, 1, amounts, 3, &total, &further) == 19);
+        dilbreth_allocate('W', form, codes, 3, accounts, 3, shorts, 3, 1, 1, amounts, 3, &total, &further) == 19);
     codes[2] = 20;
     see("allocate refuses 5 before 19",
-        dilbreth_allocate('W', codes, 3, accounts, 3, shorts, 3, 1, 1, amounts, 3, &total, &further) == 5);
+        dilbreth_allocate('W', form, codes, 3, accounts, 3, shorts, 3, 1, 1, amounts, 3, &total, &further) == 5);
     see("write refuses 1 for codes of another length",
-        dilbreth_write('L', 1, 1, codes, 2, accounts, 3, shorts, 3, text, sizeof text, &written) == 1);
+        dilbreth_write('L', 1, 1, form, codes, 2, accounts, 3, shorts, 3, text, sizeof text, &written) == 1);
 }
 
 static void exhibit(void)
@@ -163,17 +180,18 @@ static void exhibit(void)
                                   "6,155,155,1341,1341\n7,156,1155,1342,2341\n8,1156,1156,2342,2342\n"
                                   "9,1157,1166,2343,2352\n10,1167,1186,2353,2372\n";
     const size_t printed = sizeof PRINTED - 1;
-    uint32_t codes[10], accounts[10], shorts[10], amounts[10], exercised = 0, draw = 0, total = 0, further = 0;
+    uint32_t codes[10], accounts[10], shorts[10], amounts[10], exercised = 0, draw = 0, form = 9;
+    uint32_t total = 0, further = 0;
     uint8_t method = 0, output[400], before[400];
     size_t positions = 0, written = 9;
 
     memset(output, 0xEE, sizeof output);
     memset(before, 0xEE, sizeof before);
     see("exhibit read", dilbreth_read((const uint8_t *)TEXT, sizeof TEXT - 1, codes, 10, accounts, 10, shorts, 10,
-                                      &method, &exercised, &draw, &positions) == 0 &&
+                                      &method, &exercised, &draw, &form, &positions) == 0 &&
                             method == DILBRETH_REMAINDER_DRAW && exercised == 50 && draw == 395 && positions == 10);
     see("exhibit allocated without a code",
-        dilbreth_allocate(method, codes, 0, accounts, 10, shorts, 10, exercised, draw, amounts, 10, &total,
+        dilbreth_allocate(method, form, codes, 0, accounts, 10, shorts, 10, exercised, draw, amounts, 10, &total,
                           &further) == 0 &&
             total == 1186 && further == 396 && amounts[0] == 0 && amounts[6] == 50 && amounts[9] == 0);
     see("exhibit responded to by 4 where the output is a byte too short",
@@ -184,12 +202,88 @@ static void exhibit(void)
             written == printed && memcmp(output, PRINTED, printed) == 0 && output[printed] == 0xEE);
 }
 
+struct changed {
+    const char *name, *from, *to;
+};
+
+static const struct changed CHANGES[] = {
+    {"the source's table", "L,13,4855\naccount,last\n1,5\n2,13\n3,15\n4,25\n5,36\n",
+     "L,13,4855\naccount,short\n1,5\n2,8\n3,2\n4,10\n5,11\n"},
+    {"with codes", "W,175,1\ncode,account,short\n10,500,60\n20,700,200\n30,100,95\n",
+     "W,175,1\ncode,account,last\n10,500,60\n20,700,260\n30,100,355\n"},
+    {"any S and draw", "W,0,4294967295\naccount,short\n7,10000000\n", "W,0,4294967295\naccount,last\n7,10000000\n"},
+};
+
+/* A text from line 2 on as a whole text; answers its length. */
+static size_t whole(char *text, const char *rest)
+{
+    return (size_t)sprintf(text, "method,exercised,draw\n%s", rest);
+}
+
+static void changes(const struct changed *c)
+{
+    const char *from = c->from, *to = c->to, *next;
+    char what[80], text[100], expected[100];
+    uint8_t output[100], before[100];
+    size_t back, length, needed, written;
+
+    memset(before, 0xEE, sizeof before);
+    for (back = 0; back < 2; back++) {
+        length = whole(text, from);
+        needed = whole(expected, to);
+        memset(output, 0xEE, sizeof output);
+        written = 9;
+        snprintf(what, sizeof what, "change refuses 4, %s%s", c->name, back ? ", back" : "");
+        see(what, dilbreth_change((const uint8_t *)text, length, output, needed - 1, &written) == 4 && written == 9 &&
+                      memcmp(output, before, sizeof output) == 0);
+        snprintf(what, sizeof what, "change, %s%s", c->name, back ? ", back" : "");
+        see(what, dilbreth_change((const uint8_t *)text, length, output, sizeof output, &written) == 0 &&
+                      written == needed && memcmp(output, expected, needed) == 0 && output[needed] == 0xEE);
+        next = from;
+        from = to;
+        to = next;
+    }
+}
+
+static void last_numbers(void)
+{
+    uint32_t codes[5] = {0}, accounts[5] = {0}, lasts[5] = {0}, amounts[5] = {9, 9, 9, 9, 9};
+    uint32_t exercised = 0, draw = 0, form = 9, total = 77, further = 78;
+    uint8_t method = 0, text[100], output[100];
+    size_t length = whole((char *)text, CHANGES[0].from), positions = 0, written = 9, i;
+
+    see("read last numbers", dilbreth_read(text, length, codes, 5, accounts, 5, lasts, 5, &method, &exercised, &draw,
+                                           &form, &positions) == 0 &&
+                                 form == DILBRETH_LAST_NUMBERS && method == 'L' && exercised == 13 && draw == 4855 &&
+                                 positions == 5 && codes[4] == 5 && accounts[4] == 5 && lasts[0] == 5 &&
+                                 lasts[1] == 13 && lasts[4] == 36);
+    see("write last numbers", dilbreth_write(method, exercised, draw, form, codes, 5, accounts, 5, lasts, 5, output,
+                                             sizeof output, &written) == 0 &&
+                                  written == length && memcmp(output, text, length) == 0);
+    see("respond to last numbers", dilbreth_respond(text, length, output, sizeof output, &written) == 0 &&
+                                       written == sizeof M_ASSIGNED - 1 && memcmp(output, M_ASSIGNED, written) == 0);
+    lasts[2] = 13;
+    see("allocate refuses 20", dilbreth_allocate('P', form, codes, 0, accounts, 5, lasts, 5, 1, 1, amounts, 5, &total,
+                                                 &further) == 20 &&
+                                   total == 77 && further == 78 && amounts[0] == 9);
+    lasts[0] = 0;
+    see("allocate refuses 6 in the form of shorts",
+        dilbreth_allocate('P', DILBRETH_SHORTS, codes, 0, accounts, 5, lasts, 5, 1, 1, amounts, 5, &total,
+                          &further) == 6);
+    see("write judges no last number", dilbreth_write('P', 1, 1, form, codes, 5, accounts, 5, lasts, 5, text,
+                                                      sizeof text, &written) == 0);
+    see("change refuses 20", dilbreth_change(text, written, output, sizeof output, &written) == 20);
+    see("change refuses 12", dilbreth_change(text, 0, output, sizeof output, &written) == 12);
+    for (i = 0; i < sizeof CHANGES / sizeof CHANGES[0]; i++)
+        changes(&CHANGES[i]);
+}
+
 static void refusals(void)
 {
     static const uint32_t shorts[5] = {5, 8, 2, 10, 11};
     const size_t length = sizeof M - 1;
     uint32_t codes[5] = {9, 9, 9, 9, 9}, amounts[5] = {9, 9, 9, 9, 9}, other[5] = {9, 9, 9, 9, 9};
-    uint32_t total = 77, further = 78, exercised = 79, draw = 80;
+    uint32_t total = 77, further = 78, exercised = 79, draw = 80, form = 84;
     uint8_t method = 81, bytes[100], before[100];
     size_t positions = 82, written = 83;
     int kept;
@@ -197,32 +291,41 @@ static void refusals(void)
     memset(bytes, 0xEE, sizeof bytes);
     memset(before, 0xEE, sizeof before);
     see("allocate refuses 14",
-        dilbreth_allocate('X', ACCOUNTS, 5, ACCOUNTS, 5, shorts, 4, 0, 0, amounts, 0, &total, &further) == 14);
+        dilbreth_allocate('X', DILBRETH_SHORTS, ACCOUNTS, 5, ACCOUNTS, 5, shorts, 4, 0, 0, amounts, 0, &total,
+                          &further) == 14);
     see("allocate refuses 1",
-        dilbreth_allocate('W', ACCOUNTS, 5, ACCOUNTS, 5, shorts, 4, 0, 0, amounts, 5, &total, &further) == 1);
+        dilbreth_allocate('W', DILBRETH_SHORTS, ACCOUNTS, 5, ACCOUNTS, 5, shorts, 4, 0, 0, amounts, 5, &total,
+                          &further) == 1);
     see("allocate refuses 4",
-        dilbreth_allocate('W', ACCOUNTS, 5, ACCOUNTS, 5, shorts, 5, 0, 0, amounts, 4, &total, &further) == 4);
+        dilbreth_allocate('W', DILBRETH_SHORTS, ACCOUNTS, 5, ACCOUNTS, 5, shorts, 5, 0, 0, amounts, 4, &total,
+                          &further) == 4);
     see("allocate refuses 9",
-        dilbreth_allocate('P', ACCOUNTS, 5, ACCOUNTS, 5, shorts, 5, 37, 0, amounts, 5, &total, &further) == 9);
+        dilbreth_allocate('P', DILBRETH_SHORTS, ACCOUNTS, 5, ACCOUNTS, 5, shorts, 5, 37, 0, amounts, 5, &total,
+                          &further) == 9);
     see("allocate refuses 10",
-        dilbreth_allocate('W', ACCOUNTS, 5, ACCOUNTS, 5, shorts, 5, 35, 37, amounts, 5, &total, &further) == 10);
+        dilbreth_allocate('W', DILBRETH_SHORTS, ACCOUNTS, 5, ACCOUNTS, 5, shorts, 5, 35, 37, amounts, 5, &total,
+                          &further) == 10);
     see("allocate refuses 10 for one position of W",
-        dilbreth_allocate('W', ACCOUNTS, 1, ACCOUNTS, 1, shorts, 1, 4, 0, amounts, 5, &total, &further) == 10);
+        dilbreth_allocate('W', DILBRETH_SHORTS, ACCOUNTS, 1, ACCOUNTS, 1, shorts, 1, 4, 0, amounts, 5, &total,
+                          &further) == 10);
     see("read refuses 13", dilbreth_read((const uint8_t *)M, length - 1, codes, 5, amounts, 5, other, 5, &method,
-                                         &exercised, &draw, &positions) == 13);
+                                         &exercised, &draw, &form, &positions) == 13);
     see("read refuses 4", dilbreth_read((const uint8_t *)M, length, codes, 5, amounts, 5, other, 4, &method, &exercised,
-                                        &draw, &positions) == 4);
+                                        &draw, &form, &positions) == 4);
     see("read refuses 4 for codes", dilbreth_read((const uint8_t *)M, length, codes, 4, amounts, 5, other, 5, &method,
-                                                  &exercised, &draw, &positions) == 4);
+                                                  &exercised, &draw, &form, &positions) == 4);
     see("write refuses 14",
-        dilbreth_write('l', 13, 4855, ACCOUNTS, 5, ACCOUNTS, 5, shorts, 4, bytes, 0, &written) == 14);
-    see("write refuses 4",
-        dilbreth_write('L', 13, 4855, ACCOUNTS, 5, ACCOUNTS, 5, shorts, 5, bytes, length - 1, &written) == 4);
+        dilbreth_write('l', 13, 4855, DILBRETH_SHORTS, ACCOUNTS, 5, ACCOUNTS, 5, shorts, 4, bytes, 0, &written) == 14);
+    see("write refuses 4", dilbreth_write('L', 13, 4855, DILBRETH_SHORTS, ACCOUNTS, 5, ACCOUNTS, 5, shorts, 5, bytes,
+                                          length - 1, &written) == 4);
+    see("write refuses 4 for last numbers", dilbreth_write('L', 13, 4855, DILBRETH_LAST_NUMBERS, ACCOUNTS, 5, ACCOUNTS,
+                                                           5, shorts, 5, bytes, length - 2, &written) == 4);
     see("respond refuses 4",
         dilbreth_respond((const uint8_t *)M, length, bytes, sizeof M_ASSIGNED - 2, &written) == 4);
     kept = amounts[0] == 9 && memcmp(amounts, other, sizeof amounts) == 0 &&
            memcmp(amounts, codes, sizeof amounts) == 0 && total == 77 && further == 78 && exercised == 79 &&
-           draw == 80 && method == 81 && positions == 82 && written == 83 && memcmp(bytes, before, sizeof bytes) == 0;
+           draw == 80 && method == 81 && positions == 82 && written == 83 && form == 84 &&
+           memcmp(bytes, before, sizeof bytes) == 0;
     see("refusals keep every output", kept);
     see("respond writes a refusal of the text", dilbreth_respond(bytes, 0, bytes + 1, 11, &written) == 0 &&
                                                     written == 11 && memcmp(bytes + 1, "refused\n12\n", 11) == 0);
@@ -285,6 +388,7 @@ static void words(void)
 {
     static const char NINE[] = "more is exercised than the positions hold\n", NONE[] = "no refusal has this number\n";
     static const char FOURTEEN[] = "the method is not W, P, L or R\n";
+    static const char TWENTY[] = "a last number is 0 or not above the one before\n";
     const size_t length = sizeof NINE - 1;
     uint8_t line[DILBRETH_LONGEST_EXPLANATION + 1], before[sizeof line];
 
@@ -298,6 +402,8 @@ static void words(void)
             line[sizeof NONE - 1] == (uint8_t)NINE[sizeof NONE - 1]);
     see("the words for 14", dilbreth_explain(14, line, sizeof line) == sizeof FOURTEEN - 1 &&
                                 memcmp(line, FOURTEEN, sizeof FOURTEEN - 1) == 0);
+    see("the words for 20", dilbreth_explain(20, line, sizeof line) == sizeof TWENTY - 1 &&
+                                memcmp(line, TWENTY, sizeof TWENTY - 1) == 0);
     see("the longest line", dilbreth_explain(10, line, sizeof line) == DILBRETH_LONGEST_EXPLANATION);
 }
 
@@ -305,13 +411,14 @@ int main(void)
 {
     size_t i;
 
-    see("the version", DILBRETH_VERSION == 5);
+    see("the version", DILBRETH_VERSION == 6);
     for (i = 0; i < sizeof KNOWN / sizeof KNOWN[0]; i++)
         known(&KNOWN[i]);
     case_m();
     leading_zeros();
     by_codes();
     exhibit();
+    last_numbers();
     refusals();
     for (i = 0; i < sizeof INVESTORS / sizeof INVESTORS[0]; i++)
         investor(&INVESTORS[i]);

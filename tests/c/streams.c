@@ -1,5 +1,5 @@
 /*
- * Preloaded into the program `assign`: standard input, output and error that go wrong as planned.
+ * Preloaded into a program: standard input, output and error that go wrong as planned.
  * STREAM_0 is the plan of reads, STREAM_1 and STREAM_2 those of writes: numbers parted by commas, one for
  * each call. A number above 0 moves at most so many bytes, one below 0 fails with that error, and
  * NUMBER*TIMES stands for as many calls. After its plan a stream works as ever.
