@@ -180,8 +180,8 @@ begin
   See('respond to last numbers', (dilbreth_respond(PByte(series), Length(series), PByte(bytes), Length(bytes),
     @written) = 0) and (First(written) = M_ASSIGNED));
   numbers[0] := 0;
-  See('allocate refuses 20', dilbreth_allocate(method, 2, @codes[0], 0, @accounts[0], 5, @numbers[0], 5, exercised, draw,
-    @amounts[0], 6, @total, @further) = 20);
+  See('allocate refuses 20', dilbreth_allocate(method, 2, @codes[0], 0, @accounts[0], 5, @numbers[0], 5, exercised,
+    draw, @amounts[0], 6, @total, @further) = 20);
   See('allocate refuses 6 in the form of shorts', dilbreth_allocate(method, DILBRETH_SHORTS, @codes[0], 0, @accounts[0],
     5, @numbers[0], 5, exercised, draw, @amounts[0], 6, @total, @further) = 6);
   See('change to shorts', (Change(M_LASTS, 100) = 0) and (First(written) = M) and (bytes[written + 1] = 'x'));
