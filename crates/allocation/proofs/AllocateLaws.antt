@@ -4,15 +4,12 @@ use mathlib.Core.Path.{_≡_, refl, sym, ap, ap₂, _∙_}
 use mathlib.Core.Bool.{true, false}
 use mathlib.Core.Option.{Option, none, some}
 use mathlib.Core.List.{List, [], _∷_, _++_}
-use mathlib.Core.Logic.{⊎-elim}
-use denote.Enum.Declared.{tagOf}
-use types.Run.{OneOf}
 use native.Mathlib.Omega.{arith}
 use lib.Dec.{eqb}
 use lib.ListN.{length, take, drop, set}
 use borrow.Author.Tests.{eq-eqb, ne-eqb}
 use Rattle.series.specs.Results.{Result, value}
-use Rattle.series.specs.Places.{total, OnWheel}
+use Rattle.series.specs.Places.{total}
 use Rattle.series.specs.Series.{Series, MOST_CONTRACTS, method, exercised, draw, held}
 use Rattle.series.specs.Wheel.{wheel, blocksUsed}
 use Rattle.series.specs.Lottery.{lottery, unstarted, lotteryAmounts, startUsed}
@@ -22,13 +19,13 @@ use Rattle.series.specs.Call.{INCREMENT, assigned, further}
 use Rattle.series.specs.Fair.{AllocatingCall}
 use Rattle.series.specs.declared.Method.{Method}
 use Rattle.series.specs.declared.Terms.{Terms}
-use Rattle.series.proofs.Method.{the-type}
-use Rattle.series.proofs.CallLaws.{not-wheel, codes-unseen, wheel-judged, lottery-judged, wheel-draw, lottery-draw, starting-on}
-use Rattle.series.proofs.RemainderLaws.{remainder-on}
+use Rattle.series.proofs.CallLaws.{codes-unseen, wheel-judged, lottery-judged, wheel-draw, lottery-draw}
 use Rattle.allocation.specs.Stretch.{Sized}
 use Rattle.allocation.specs.Blocks.{WheelCall}
-use Rattle.allocation.specs.Lottery.{LotteryCall, startBy, methodFor, placeBy, Leads, DrawCall}
-use Rattle.allocation.specs.declared.lottery.StartBy.{StartBy}
+use Rattle.allocation.specs.Lottery.{LotteryCall, DrawCall}
+use Rattle.starts.specs.Starts.{methodFor, placeBy, Leads}
+use Rattle.starts.specs.declared.StartBy.{StartBy}
+use Rattle.starts.proofs.StartLaws.{place-on, started-not-wheel}
 use Rattle.judging.specs.Judged.{JudgedSeries}
 use Rattle.judging.specs.Assigning.{Assigns}
 use Rattle.judging.proofs.CallLaws.{call-requires, call-allocated}
@@ -36,33 +33,6 @@ use Rattle.judging.proofs.CallLaws.{call-requires, call-allocated}
 -- an allocation by a method, with T and the further number
 abbrev answered-by : Method → ℕ → Option ℕ → Result Allocation
 answered-by m T f = value (record { method = m; total = T; further = f })
-
--- a draw that leads to a starting place leads to a place on the wheel
-place-on : (by : StartBy) (T draw : ℕ) → 0 < T → Leads by draw → OnWheel T (placeBy by T draw)
-place-on StartBy.TenThousandths T draw pos leads = starting-on T draw pos leads
-place-on StartBy.Remainder T draw pos leads = remainder-on T draw pos
-
--- under L it is at most 10,000
-pub leads-most : (by : StartBy) (draw : ℕ) → by ≡ StartBy.TenThousandths → Leads by draw → draw ≤ 10000
-leads-most by draw e leads = (rw e at leads) .high
-
-pub started-not-wheel : (by : StartBy) → methodFor by ≡ Method.Wheel → ⊥
-started-not-wheel StartBy.TenThousandths = not-wheel Method.Lottery refl
-started-not-wheel StartBy.Remainder = not-wheel Method.RemainderDraw refl
-
--- a method other than R, whose tag is 0 to 2
-pub starts-otherwise : (m : Method) → OneOf (0 ∷ 1 ∷ 2 ∷ []) (tagOf the-type m) → StartBy.TenThousandths ≡ startBy m
-starts-otherwise Method.Wheel k = refl
-starts-otherwise Method.ProRata k = refl
-starts-otherwise Method.Lottery k = refl
-starts-otherwise Method.RemainderDraw k = absurd (⊎-elim (λ z. omega arith) (⊎-elim (λ z. omega arith) (λ z. omega arith)) k)
-
--- L or R, whose tag is 2 or 3
-pub started-method : (m : Method) → OneOf (2 ∷ 3 ∷ []) (tagOf the-type m) → m ≡ methodFor (startBy m)
-started-method Method.Wheel k = absurd (⊎-elim (λ z. omega arith) (λ z. omega arith) k)
-started-method Method.ProRata k = absurd (⊎-elim (λ z. omega arith) (λ z. omega arith) k)
-started-method Method.Lottery k = refl
-started-method Method.RemainderDraw k = refl
 
 -- the definitions of a call by L or R
 started-further : (by : StartBy) (s : Series) → method s ≡ methodFor by → further s ≡ startUsed (s .shorts) (exercised s) (placeBy by (held s) (draw s))

@@ -5,22 +5,22 @@ mod millionths;
 mod places;
 mod wheel;
 
-use crate::lottery::Start;
-use crate::lottery::StartBy;
 use judging::Judged;
 use series::Answer;
 use series::Contracts;
 use series::Method;
 use series::Terms;
+use starts::StartBy;
+use starts::answer_for;
+use starts::method_for;
+use starts::start_by;
 ghost use Prim.Native.Nat.{ℕ};
-ghost use mathlib.Core.Path.{_≡_};
 ghost use mathlib.Core.List.{List};
 ghost use lib.ListN.{length};
 ghost use Rattle.series.specs.Answers.{answerOf};
-ghost use Rattle.series.specs.Results.{value};
 ghost use Rattle.series.specs.Fair.{AllocatingCall};
 ghost use Rattle.series.specs.declared.Method.{Method as Method·};
-ghost use Rattle.allocation.specs.Lottery.{startBy, methodFor, startOf};
+ghost use Rattle.starts.specs.Starts.{methodFor};
 
 // The assignment increment.
 const INCREMENT: u32 = 25;
@@ -55,42 +55,6 @@ fn allocate_wheel(
             );
             Answer::Wheel { total, blocks }
         }
-    }
-}
-
-// How a draw leads to a starting place under L or R; W and P do not ask.
-fn start_by(method: Method) -> StartBy
-    ensures { λ r. ⌜ r ≡ startBy method ⌝ }
-{
-    match method {
-        Method::RemainderDraw => StartBy::Remainder,
-        _ => StartBy::TenThousandths,
-    }
-}
-
-// The method that goes by such a start.
-fn method_for(by: StartBy) -> Method
-    ensures { λ r. ⌜ r ≡ methodFor by ⌝ }
-{
-    match by {
-        StartBy::TenThousandths => Method::Lottery,
-        StartBy::Remainder => Method::RemainderDraw,
-    }
-}
-
-// What such a call answers.
-fn answer_for(by: StartBy, total: Contracts, start: Start) -> Answer
-    ensures { λ r. ⌜ answerOf r ≡ value (record { method = methodFor by; total = total .0; further = startOf start }) ⌝ }
-{
-    match start {
-        Start::At(start) => match by {
-            StartBy::TenThousandths => Answer::Lottery { total, start },
-            StartBy::Remainder => Answer::RemainderDraw { total, start },
-        },
-        Start::Undrawn => match by {
-            StartBy::TenThousandths => Answer::LotteryUndrawn { total },
-            StartBy::Remainder => Answer::RemainderUndrawn { total },
-        },
     }
 }
 

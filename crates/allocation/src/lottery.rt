@@ -5,25 +5,14 @@ use crate::places::assign_run;
 use crate::places::seek;
 use series::Contracts;
 use series::Place;
+use starts::Start;
+use starts::StartBy;
 ghost use mathlib.Core.Path.{_≡_};
 ghost use Prim.Native.Nat.{_≤_, _<_};
 ghost use Rattle.series.specs.Series.{MOST_CONTRACTS};
 ghost use Rattle.series.specs.Lottery.{lottery, lotteryAmounts, startUsed};
-ghost use Rattle.allocation.specs.Lottery.{LotteryCall, placeBy, Leads, DrawCall, startOf};
-
-// Where the work starts: at the starting place, or at none where none is needed.
-pub enum Start {
-    At(Place),
-    Undrawn,
-}
-
-// How a draw leads to a starting place.
-pub enum StartBy {
-    // L: the draw in ten-thousandths of T, rounded up.
-    TenThousandths,
-    // R: the draw modulo T, plus 1.
-    Remainder,
-}
+ghost use Rattle.starts.specs.Starts.{placeBy, Leads, startOf};
+ghost use Rattle.allocation.specs.Lottery.{LotteryCall, DrawCall};
 
 // The starting place that a draw leads to.
 fn starting_place(by: StartBy, total: Contracts, draw: u32) -> Place

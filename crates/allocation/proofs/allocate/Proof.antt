@@ -3,8 +3,8 @@ use mathlib.Core.Path.{sym, ap, _∙_}
 use borrow.Author.Needs.{needs}
 use Rattle.series.specs.declared.Method.{Method}
 use Rattle.judging.proofs.CallLaws.{by-method}
-use Rattle.allocation.specs.Lottery.{methodFor}
-use Rattle.allocation.proofs.AllocateLaws.{started-method}
+use Rattle.starts.specs.Starts.{methodFor}
+use Rattle.starts.proofs.StartLaws.{started-method}
 use Rattle.allocation.proofs.allocate.Statement.{statement}
 use Rattle.allocation.proofs.allocate.Tie as tie
 

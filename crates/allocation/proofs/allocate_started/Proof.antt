@@ -9,8 +9,9 @@ use Rattle.series.specs.Series.{Series}
 use Rattle.series.proofs.CallLaws.{codes-unseen}
 use Rattle.judging.specs.Judged.{judgedOf}
 use Rattle.judging.proofs.CallLaws.{fits, call-refused}
-use Rattle.allocation.specs.Lottery.{methodFor}
-use Rattle.allocation.proofs.AllocateLaws.{started-not-wheel, started-asked, started-called}
+use Rattle.starts.specs.Starts.{methodFor}
+use Rattle.starts.proofs.StartLaws.{started-not-wheel}
+use Rattle.allocation.proofs.AllocateLaws.{started-asked, started-called}
 use Rattle.allocation.proofs.allocate_started.Statement.{statement}
 use Rattle.allocation.proofs.allocate_started.Tie as tie
 

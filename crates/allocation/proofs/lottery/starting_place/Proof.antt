@@ -5,7 +5,7 @@ use native.Mathlib.Omega.{arith}
 use native.Mathlib.Nat.{mul-le-mul, mod-lt}
 use Rattle.series.specs.Lottery.{startingPlace}
 use Rattle.series.specs.RemainderDraw.{remainderPlace}
-use Rattle.allocation.proofs.AllocateLaws.{leads-most}
+use Rattle.starts.proofs.StartLaws.{leads-most}
 use Rattle.allocation.proofs.lottery.starting_place.Statement.{statement}
 use Rattle.allocation.proofs.lottery.starting_place.Tie as tie
 

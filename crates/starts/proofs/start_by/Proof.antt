@@ -1,9 +1,9 @@
 -- `start_by` meets its contract.
 use mathlib.Core.Path.{refl}
 use borrow.Author.Needs.{needs}
-use Rattle.allocation.proofs.AllocateLaws.{starts-otherwise}
-use Rattle.allocation.proofs.start_by.Statement.{statement}
-use Rattle.allocation.proofs.start_by.Tie as tie
+use Rattle.starts.proofs.StartLaws.{starts-otherwise}
+use Rattle.starts.proofs.start_by.Statement.{statement}
+use Rattle.starts.proofs.start_by.Tie as tie
 
 enum-told : tie.Need-enum-told
 enum-told c = search needs

@@ -1,8 +1,8 @@
 -- `method_for` meets its contract.
 use mathlib.Core.Path.{refl}
 use borrow.Author.Needs.{needs}
-use Rattle.allocation.proofs.method_for.Statement.{statement}
-use Rattle.allocation.proofs.method_for.Tie as tie
+use Rattle.starts.proofs.method_for.Statement.{statement}
+use Rattle.starts.proofs.method_for.Tie as tie
 
 enum-told : tie.Need-enum-told
 enum-told c = search needs

@@ -1,8 +1,8 @@
 -- `answer_for` meets its contract: each method's own cases.
 use mathlib.Core.Path.{refl}
 use borrow.Author.Needs.{needs}
-use Rattle.allocation.proofs.answer_for.Statement.{statement}
-use Rattle.allocation.proofs.answer_for.Tie as tie
+use Rattle.starts.proofs.answer_for.Statement.{statement}
+use Rattle.starts.proofs.answer_for.Tie as tie
 
 enum-known-start : tie.Need-enum-known-start
 enum-known-start c = search needs

@@ -1,0 +1,2 @@
+-- Laws of how L and R start.
+pub mod StartLaws
