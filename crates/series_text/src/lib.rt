@@ -1,11 +1,7 @@
 // Reading the text of a series into three lent lists.
-pub mod ends;
-mod field;
 pub mod letters;
 mod lines;
 pub mod names;
-mod number;
-mod row;
 
 use forms::Form;
 use lines::HeadLines;

@@ -1,6 +1,4 @@
 // Reading the lines of a text.
-use crate::field::Found;
-use crate::field::find_end;
 use crate::letters::Named;
 use crate::letters::method_by;
 use crate::names::Names;
@@ -8,13 +6,15 @@ use crate::names::form_of;
 use crate::names::is_coded;
 use crate::names::read_columns;
 use crate::names::read_names;
-use crate::row::RowEnd;
-use crate::row::has_fields;
-use crate::row::read_row;
 use forms::Form;
 use series::Contracts;
 use series::Refusal;
 use series::Terms;
+use text_fields::field::Found;
+use text_fields::field::find_end;
+use text_fields::row::RowEnd;
+use text_fields::row::has_fields;
+use text_fields::row::read_row;
 use text_rules::Heading;
 ghost use mathlib.Core.Path.{_≡_};
 ghost use Prim.Native.Nat.{_≤_};
@@ -26,7 +26,8 @@ ghost use Rattle.series.specs.declared.Terms.{Terms as Terms·};
 ghost use Rattle.forms.specs.declared.Form.{Form as Form·};
 ghost use Rattle.text_rules.specs.Letters.{methodOf};
 ghost use Rattle.text_rules.specs.Text.{readTerms, readHead, readPositions, MOST_LINES};
-ghost use Rattle.series_text.specs.Parts.{namedMeans, rowMeans, TermsMalformed, termsMeans, headMeans, readPosition, positionsMean, positionsWithin};
+ghost use Rattle.text_fields.specs.Parts.{rowMeans};
+ghost use Rattle.series_text.specs.Parts.{namedMeans, TermsMalformed, termsMeans, headMeans, readPosition, positionsMean, positionsWithin};
 
 // The values of line 2, and the index after it.
 pub enum TermsLine {

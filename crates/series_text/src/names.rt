@@ -1,13 +1,14 @@
 // The names lines: fixed byte strings that the reader compares and the writer writes, and what each stands for.
-use crate::field::Line;
-use crate::field::skip_line;
 use forms::Form;
+use text_fields::field::Line;
+use text_fields::field::skip_line;
 use text_rules::Heading;
 ghost use mathlib.Core.Path.{_≡_};
 ghost use mathlib.Core.List.{[], _∷_};
 ghost use lib.ListN.{drop};
 ghost use Rattle.text_rules.specs.Names.{line3, headingOf, formOf, coded, afterLine, namesLine, readNames};
-ghost use Rattle.series_text.specs.Parts.{lineMeans, namesMean};
+ghost use Rattle.text_fields.specs.Parts.{lineMeans};
+ghost use Rattle.series_text.specs.Parts.{namesMean};
 
 // A names line, with the index after it.
 pub enum Names {

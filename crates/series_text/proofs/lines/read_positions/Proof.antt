@@ -9,7 +9,7 @@ use lib.Seq.{length-take-le}
 use Rattle.series.specs.Sums.{listed}
 use Rattle.text_rules.specs.Rows.{rowsOf}
 use Rattle.text_rules.specs.Text.{MOST_LINES}
-use Rattle.series_text.specs.Parts.{rowMeans}
+use Rattle.text_fields.specs.Parts.{rowMeans}
 use Rattle.series_text.proofs.LineLaws.{RowsTo, rows-start, rows-end, rows-over, rows-malformed, rows-more, positions-refused, positions-all}
 use Rattle.text_rules.proofs.ColumnLaws.{rows-set}
 use Rattle.series_text.proofs.lines.read_positions.Statement.{statement}

@@ -7,8 +7,10 @@ use lib.ListN.{drop}
 use Rattle.series.specs.Results.{value}
 use Rattle.text_rules.specs.Fields.{COMMA}
 use Rattle.text_rules.specs.Rows.{readRow}
-use Rattle.series_text.specs.Parts.{foundMeans, rowMeans, namedMeans}
-use Rattle.series_text.proofs.LineLaws.{FoundAt, found-at, terms-first, terms-unknown, terms-all, row-found}
+use Rattle.text_fields.specs.Parts.{foundMeans, rowMeans}
+use Rattle.text_fields.proofs.RowLaws.{FoundAt, found-at}
+use Rattle.series_text.specs.Parts.{namedMeans}
+use Rattle.series_text.proofs.LineLaws.{terms-first, terms-unknown, terms-all, row-found}
 use Rattle.series_text.proofs.lines.read_terms.Statement.{statement}
 use Rattle.series_text.proofs.lines.read_terms.Tie as tie
 

@@ -2,7 +2,7 @@
 use borrow.Author.Needs.{needs}
 use mathlib.Core.Path.{sym, ap, _∙_}
 use Rattle.text_rules.specs.Names.{headingOr}
-use Rattle.series_text.specs.Parts.{lineMeans}
+use Rattle.text_fields.specs.Parts.{lineMeans}
 use Rattle.series_text.proofs.LineLaws.{names-read}
 use Rattle.series_text.proofs.names.read_names.Statement.{statement}
 use Rattle.series_text.proofs.names.read_names.Tie as tie

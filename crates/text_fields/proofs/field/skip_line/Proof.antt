@@ -3,9 +3,9 @@ use Prim.Native.Nat.{_≤_, _-_}
 use mathlib.Core.Path.{refl, sym}
 use native.Mathlib.Omega.{arith}
 use lib.ListN.{length}
-use Rattle.series_text.proofs.FieldLaws.{ComparedTo, line-none, line-other, line-more, line-end}
-use Rattle.series_text.proofs.field.skip_line.Statement.{statement}
-use Rattle.series_text.proofs.field.skip_line.Tie as tie
+use Rattle.text_fields.proofs.FieldLaws.{ComparedTo, line-none, line-other, line-more, line-end}
+use Rattle.text_fields.proofs.field.skip_line.Statement.{statement}
+use Rattle.text_fields.proofs.field.skip_line.Tie as tie
 
 abbrev Inv-loop : tie.InvT-loop
 Inv-loop text at line i₀ j₀ i j = (i ≤ length line) × ComparedTo line text at i j

@@ -4,7 +4,7 @@ ghost use mathlib.Core.Bool.{true};
 ghost use lib.ListN.{drop};
 ghost use Rattle.text_rules.specs.Numbers.{digit};
 ghost use Rattle.text_rules.specs.Fields.{ends};
-ghost use Rattle.series_text.specs.Parts.{fieldMeans, numberBy};
+ghost use Rattle.text_fields.specs.Parts.{fieldMeans, numberBy};
 
 // A number, and the index of the byte after its field.
 pub enum Field {

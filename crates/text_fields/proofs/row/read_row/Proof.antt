@@ -4,11 +4,11 @@ use mathlib.Core.Path.{_≡_, refl, sym, ap, _∙_}
 use native.Mathlib.Omega.{arith}
 use lib.ListN.{length, drop, length-set}
 use Rattle.text_rules.specs.Fields.{ends}
-use Rattle.series_text.specs.Parts.{fieldMeans, numberBy}
-use Rattle.series_text.proofs.LineLaws.{end-last, end-other, RowTo, row-start, row-end, row-more, row-malformed}
+use Rattle.text_fields.specs.Parts.{fieldMeans, numberBy}
+use Rattle.text_fields.proofs.RowLaws.{end-last, end-other, RowTo, row-start, row-end, row-more, row-malformed}
 use borrow.Author.Needs.{needs}
-use Rattle.series_text.proofs.row.read_row.Statement.{statement}
-use Rattle.series_text.proofs.row.read_row.Tie as tie
+use Rattle.text_fields.proofs.row.read_row.Statement.{statement}
+use Rattle.text_fields.proofs.row.read_row.Tie as tie
 
 abbrev Inv-loop : tie.InvT-loop
 Inv-loop text at row₀ last next₀ i₀ row next i = (i ≤ last) × (length row ≡ length row₀) × RowTo (length row₀) text at row next i (length row₀ - i)

@@ -3,7 +3,7 @@ ghost use mathlib.Core.Path.{_≡_};
 ghost use lib.ListN.{length, drop};
 ghost use Rattle.text_rules.specs.Fields.{ends, fieldBy};
 ghost use Rattle.text_rules.specs.Names.{afterLine};
-ghost use Rattle.series_text.specs.Parts.{lineMeans, foundMeans, foundWithin};
+ghost use Rattle.text_fields.specs.Parts.{lineMeans, foundMeans, foundWithin};
 
 // The index after a line, where the text has it.
 pub enum Line {

@@ -13,7 +13,7 @@ use lib.Seq.{slice, slice-empty, length-slice, take-suc, drop-cons, drop-append-
 use Rattle.series.specs.Results.{Result, refused, value, _>>=_}
 use Rattle.text_rules.specs.Fields.{Text, Read, ends, field, past, fieldBy}
 use Rattle.text_rules.specs.Names.{afterLine}
-use Rattle.series_text.specs.Parts.{numberBy}
+use Rattle.text_fields.specs.Parts.{numberBy}
 use Rattle.text_rules.specs.Numbers.{LARGEST, MOST_DIGITS, digit, digits, spelled, amountFrom, amount, numeral, number}
 use Rattle.text_rules.proofs.FieldLaws.{prefixed, prefixed-nil, prefixed-prefixed, field-byte, field-end, field-other, field-none, digits-append, amount-more, digits-read, digit-bounds, ends-digit}
 

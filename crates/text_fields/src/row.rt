@@ -8,7 +8,7 @@ ghost use mathlib.Core.Path.{_≡_};
 ghost use lib.ListN.{length, drop};
 ghost use Rattle.text_rules.specs.Fields.{readFields};
 ghost use Rattle.text_rules.specs.Rows.{readRow};
-ghost use Rattle.series_text.specs.Parts.{rowMeans, foundFields};
+ghost use Rattle.text_fields.specs.Parts.{rowMeans, foundFields};
 
 // The index after a row of numbers, where there is one.
 pub enum RowEnd {

@@ -5,10 +5,10 @@ use native.Mathlib.Omega.{arith}
 use borrow.Author.Needs.{needs}
 use lib.ListN.{length, drop}
 use Rattle.text_rules.specs.Fields.{fieldBy, endBefore}
-use Rattle.series_text.specs.Parts.{foundMeans, foundWithin}
-use Rattle.series_text.proofs.LineLaws.{FoundAt, found-at, FieldsTo, fields-missing, fields-more, fields-all}
-use Rattle.series_text.proofs.row.has_fields.Statement.{statement}
-use Rattle.series_text.proofs.row.has_fields.Tie as tie
+use Rattle.text_fields.specs.Parts.{foundMeans, foundWithin}
+use Rattle.text_fields.proofs.RowLaws.{FoundAt, found-at, FieldsTo, fields-missing, fields-more, fields-all}
+use Rattle.text_fields.proofs.row.has_fields.Statement.{statement}
+use Rattle.text_fields.proofs.row.has_fields.Tie as tie
 
 abbrev Inv-loop : tie.InvT-loop
 Inv-loop text at fields next₀ left₀ next left = FieldsTo fields text at next left

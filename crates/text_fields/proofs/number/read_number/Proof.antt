@@ -5,9 +5,9 @@ use native.Mathlib.Omega.{arith}
 use borrow.Author.Tests.{not-true, not-false}
 use lib.ListN.{length, getD}
 use Rattle.text_rules.proofs.FieldLaws.{digit-bounds}
-use Rattle.series_text.proofs.FieldLaws.{NumberTo, number-start, number-small, number-more, number-long, number-other, number-none, number-end, number-empty, number-large}
-use Rattle.series_text.proofs.number.read_number.Statement.{statement}
-use Rattle.series_text.proofs.number.read_number.Tie as tie
+use Rattle.text_fields.proofs.FieldLaws.{NumberTo, number-start, number-small, number-more, number-long, number-other, number-none, number-end, number-empty, number-large}
+use Rattle.text_fields.proofs.number.read_number.Statement.{statement}
+use Rattle.text_fields.proofs.number.read_number.Tie as tie
 
 abbrev Inv-loop : tie.InvT-loop
 Inv-loop text at end n₀ i₀ n i = NumberTo end text at i n

@@ -6,9 +6,9 @@ use native.Mathlib.Omega.{arith}
 use lib.ListN.{length}
 use borrow.Author.Tests.{ne-eqb}
 use Rattle.text_rules.specs.Fields.{ends}
-use Rattle.series_text.proofs.FieldLaws.{ReadTo, read-start, read-more, read-end, read-other, read-none}
-use Rattle.series_text.proofs.field.find_end.Statement.{statement}
-use Rattle.series_text.proofs.field.find_end.Tie as tie
+use Rattle.text_fields.proofs.FieldLaws.{ReadTo, read-start, read-more, read-end, read-other, read-none}
+use Rattle.text_fields.proofs.field.find_end.Statement.{statement}
+use Rattle.text_fields.proofs.field.find_end.Tie as tie
 
 abbrev Inv-loop : tie.InvT-loop
 Inv-loop text at end i₀ i = (at ≤ i) × ReadTo end text at i

@@ -1,8 +1,8 @@
 -- `field::ends_field` meets its contract.
 use Rattle.text_rules.specs.Fields.{ends}
 use borrow.Author.Tests.{ne-eqb}
-use Rattle.series_text.proofs.field.ends_field.Statement.{statement}
-use Rattle.series_text.proofs.field.ends_field.Tie as tie
+use Rattle.text_fields.proofs.field.ends_field.Statement.{statement}
+use Rattle.text_fields.proofs.field.ends_field.Tie as tie
 
 returns : tie.Need-returns
 unfolding ends

@@ -1,8 +1,8 @@
 -- `number::is_digit` meets its contract.
 use Rattle.text_rules.specs.Numbers.{digit}
 use borrow.Author.Tests.{lt-leb, le-leb}
-use Rattle.series_text.proofs.number.is_digit.Statement.{statement}
-use Rattle.series_text.proofs.number.is_digit.Tie as tie
+use Rattle.text_fields.proofs.number.is_digit.Statement.{statement}
+use Rattle.text_fields.proofs.number.is_digit.Tie as tie
 
 returns : tie.Need-returns
 unfolding digit

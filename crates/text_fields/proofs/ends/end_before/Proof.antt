@@ -2,8 +2,8 @@
 use Prim.Native.Nat.{ℕ, zero, suc}
 use mathlib.Core.Path.{_≡_, refl}
 use Rattle.text_rules.specs.Fields.{COMMA, endBefore}
-use Rattle.series_text.proofs.ends.end_before.Statement.{statement}
-use Rattle.series_text.proofs.ends.end_before.Tie as tie
+use Rattle.text_fields.proofs.ends.end_before.Statement.{statement}
+use Rattle.text_fields.proofs.ends.end_before.Tie as tie
 
 comma : (k : ℕ) → (k ≡ 0 → ⊥) → COMMA ≡ endBefore k
 unfolding endBefore
