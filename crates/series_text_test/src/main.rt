@@ -1,4 +1,5 @@
 // Reads and rewrites texts, and prints what it got. A lent list holds 7s before the call, an output dots.
+use libc::STDIN_FILENO;
 use libc::STDOUT_FILENO;
 use series::Contracts;
 use series::Method;
@@ -6,6 +7,8 @@ use series::Refusal;
 use series::Terms;
 use series_text::Reading;
 use text_writing::Writing;
+ghost use Prim.Native.Nat.{_≤_, max};
+ghost use lib.ListN.{length};
 
 fn print(bytes: &[u8]) {
     io::write_all(STDOUT_FILENO, bytes);
@@ -103,58 +106,32 @@ fn reread(text: &[u8]) {
     }
 }
 
-// The texts that are read, and some that are refused, in the order of the numbers.
+// The index of a byte from an index on, or the text's length.
+fn index_of(text: &[u8], at: usize, byte: u8) -> usize
+    ensures { λ r. ⌜ (at ≤ r) × (r ≤ max at (length (now (text .entry)))) ⌝ }
+{
+    let mut i = at;
+    while i < text.len() {
+        if text[i] == byte {
+            return i;
+        }
+        i += 1;
+    }
+    i
+}
+
+// The texts of the file stdin, each ended by a bar and byte 10; one that begins with `#` says what the next ones are.
 fn texts() {
-    reread(b"method,exercised,draw\nL,13,4855\naccount,short\n1,5\n2,8\n3,2\n4,10\n5,11\n");
-    reread(b"method,exercised,draw\nW,175,340\naccount,short\n1,60\n2,200\n3,95\n");
-    reread(b"method,exercised,draw\nR,50,395\naccount,short\n1,1\n7,1000\n");
-    reread(b"method,exercised,draw\nP,0,4294967295\naccount,short\n");
-    reread(b"method,exercised,draw\nP,4,0\naccount,short\n4294967295,0\n0,4294967295\n0,0\n");
-    reread(b"method,exercised,draw\nW,1,1\naccount,short\n1,1\n2,1\n3,1\n4,1\n5,1\n6,1\n");
-    reread(b"method,exercised,draw\nW,1,1\naccount,short\n1,1\n2,1\n3,1\n4,1\n5,1\n6,1\n7,1\n");
-    reread(b"method,exercised,draw\r\nW,1,1\naccount,short\n1,1\n");
-    reread(b"method,exercised,draw\nW,1,1\naccount,short");
-    reread(b"method,exercised,draw\nX,1\naccount,short\n");
-    reread(b"method,exercised,draw\nX,x1,1\naccount,short\n");
-    reread(b"method,exercised,draw\nW,x1,1\nshort,account\n");
-    reread(b"method,exercised,draw\nW,1,1\naccount,short\n1,1\n2,4294967296\n");
-    reread(b"method,exercised,draw\nW,1,1\naccount,short\n1,1\n2,2");
-    reread(b"method,exercised,draw\nW,1,1\naccount,short\n1,1\n\n");
-}
-
-// Leading zeros in every field; eleven digits, and ten that pass 32 bits, in each.
-fn spellings() {
-    reread(b"method,exercised,draw\nL,0013,0000004855\naccount,short\n0001,5\n02,0000000008\n");
-    reread(
-        b"method,exercised,draw\nW,0000000000,4294967295\naccount,short\n0000000000,0\n1,0000000001\n01,4294967295\n",
-    );
-    reread(b"method,exercised,draw\nW,00000000001,1\naccount,short\n1,1\n");
-    reread(b"method,exercised,draw\nW,1,00000000001\naccount,short\n1,1\n");
-    reread(b"method,exercised,draw\nW,1,1\naccount,short\n00000000001,1\n");
-    reread(b"method,exercised,draw\nW,1,1\naccount,short\n1,00000000001\n");
-    reread(b"method,exercised,draw\nW,4294967296,1\naccount,short\n1,1\n");
-    reread(b"method,exercised,draw\nW,1,9999999999\naccount,short\n1,1\n");
-    reread(b"method,exercised,draw\nW,1,1\naccount,short\n4294967297,1\n");
-    reread(b"method,exercised,draw\nW,1,1\naccount,short\n1,8589934592\n");
-}
-
-// Codes: a list in code order, codes that are the accounts, no positions, too few and too many numbers, and other names lines.
-fn codes() {
-    reread(
-        b"method,exercised,draw\nW,175,1\ncode,account,short\n10,500,60\n20,700,200\n30,100,95\n",
-    );
-    reread(b"method,exercised,draw\nL,13,4855\ncode,account,short\n1,1,5\n2,2,8\n");
-    reread(b"method,exercised,draw\nW,1,1\ncode,account,short\n");
-    reread(b"method,exercised,draw\nP,1,1\ncode,account,short\n0009,2,1\n0,3,4294967295\n");
-    reread(b"method,exercised,draw\nW,1,1\ncode,account,short\n1,1\n");
-    reread(b"method,exercised,draw\nW,1,1\ncode,account,short\n1,1,1,1\n");
-    reread(b"method,exercised,draw\nW,1,1\naccount,short\n1,1,1\n");
-    reread(b"method,exercised,draw\nW,1,1\ncode,account,short\n00000000001,1,1\n");
-    reread(b"method,exercised,draw\nW,1,1\ncode,account,shorts\n1,1,1\n");
-    reread(b"method,exercised,draw\nW,1,1\ncode,account\n1,1,1\n");
-    reread(
-        b"method,exercised,draw\nW,1,1\ncode,account,short\n1,1,1\n2,2,1\n3,3,1\n4,4,1\n5,5,1\n6,6,1\n7,7,1\n",
-    );
+    let mut input = [0u8; 8192];
+    let n = io::read_full(STDIN_FILENO, &mut input);
+    let mut at = 0;
+    while at < n {
+        let end = index_of(&input, at, b'|');
+        if input[at] != b'#' {
+            reread(&input[at..end]);
+        }
+        at = end + 2;
+    }
 }
 
 // The byte at an index of a text that is a head and then lines `1,1`.
@@ -230,8 +207,6 @@ fn long_writings() {
 
 fn main() {
     texts();
-    spellings();
-    codes();
     limits();
     writings();
     long_writings();
