@@ -1,5 +1,5 @@
 -- What the calls under the exports answered, as what the exports hand back.
-use Prim.Native.Nat.{ℕ, zero, suc}
+use Prim.Native.Nat.{ℕ}
 use mathlib.Core.Path.{_≡_, refl, sym, ap, _∙_}
 use mathlib.Core.Bool.{Bool, true, false, cond}
 use mathlib.Core.List.{List}
@@ -21,7 +21,8 @@ use Rattle.assignment_text.specs.Printed.{printed}
 use Rattle.assignment_text.specs.Responses.{Printing, responseOf, printInto, Responds}
 use Rattle.assignment_text.specs.declared.Response.{Response}
 use Rattle.assignment_text.proofs.RoomLaws.{printed-room}
-use Rattle.dilbreth.specs.Exports.{formBy, formNumber, listingBy, called, Handing, handedNumbers, Allocates, Reads, writtenBy, printedInto, Writes}
+use Rattle.answer_numbers.specs.Numbers.{formBy, formNumber, Handing, handedNumbers}
+use Rattle.dilbreth.specs.Exports.{listingBy, called, Allocates, Reads, writtenBy, printedInto, Writes}
 
 -- the values of a series with a known method
 abbrev termsOf : Method → ℕ → ℕ → Terms
@@ -116,14 +117,3 @@ module _ (s : Text) (v : ℕ) (old new : Text) (k : ℕ) where
   pub respond-none : (r : Response) (n q : ℕ) → responseOf r ≡ record { written = n; refusal = q } → n ≡ 0 → Responds r (printed s) v old new → Writes (printedInto s (length old)) 4 old new (record { old = k; new = k })
   unfolding printedInto printInto ontoRoom printing
   respond-none r n q is z p = none (ltb (length old) (length (printed s))) q (rw z at (sym is ∙ p .hands)) (p .output)
-
--- ---- the form
-
-pub shorts-by : (n : ℕ) → n ≡ 0 → Form.Shorts ≡ formBy n
-unfolding formBy
-shorts-by n e = rw e
-
-pub lasts-by : (n : ℕ) → (n ≡ 0 → ⊥) → Form.LastNumbers ≡ formBy n
-unfolding formBy
-lasts-by zero d = absurd (d refl)
-lasts-by (suc n) d = refl

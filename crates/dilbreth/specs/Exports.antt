@@ -1,30 +1,19 @@
 -- The exported calls: each answers 0 or the number of a refusal, and hands its values back behind its arguments, which a refusal keeps.
-use Prim.Native.Nat.{ℕ, zero, suc}
+use Prim.Native.Nat.{ℕ}
 use mathlib.Core.Path.{_≡_}
 use mathlib.Core.List.{List}
 use lib.Dec.{ltb}
 use lib.ListN.{length}
-use Rattle.series.specs.Results.{Result, refused, value, _>>=_, refuse, after, status}
+use Rattle.series.specs.Results.{Result, value, _>>=_, refuse, after, status}
 use Rattle.series.specs.Outputs.{onto}
 use Rattle.series.specs.Answers.{Allocation, handedBack}
 use Rattle.series.specs.Call.{answer, output}
 use Rattle.forms.specs.Forms.{Listing, seriesIn, inForm}
-use Rattle.forms.specs.declared.Form.{Form}
+use Rattle.answer_numbers.specs.Numbers.{formBy, formNumber}
 use Rattle.text_rules.specs.Fields.{Text}
 use Rattle.text_rules.specs.Letters.{letter, methodBy}
 use Rattle.text_rules.specs.Calls.{writeInto}
 use Rattle.assignment_text.specs.Printed.{printed}
-use Rattle.dilbreth.specs.declared.Numbers.{Numbers}
-
--- the form of a number: 0 is shorts, any other number last numbers
-unfoldable pub formBy : ℕ → Form
-formBy zero = Form.Shorts
-formBy (suc n) = Form.LastNumbers
-
--- the number of a form
-unfoldable pub formNumber : Form → ℕ
-formNumber Form.Shorts = 0
-formNumber Form.LastNumbers = 1
 
 -- the listing whose method comes as its letter and whose form as its number; any other letter is 14 before all other refusals
 unfoldable pub listingBy : ℕ → ℕ → ℕ → ℕ → List ℕ → List ℕ → List ℕ → Result Listing
@@ -37,22 +26,6 @@ unfoldable pub called : Result Listing → ℕ → Result Allocation
 called r room = do
   l ← r
   inForm (l .form) (answer (seriesIn l) room)
-
--- the numbers that an allocation hands back: T and the further number, 0 where there is none
-pub record Handing : Type 0 where
-  pub total : ℕ
-  pub further : ℕ
-
--- those of an answer
-unfoldable pub handedNumbers : Result Allocation → Result Handing
-handedNumbers r = do
-  a ← r
-  value (record { total = a .total; further = handedBack (a .further) })
-
--- those of each case of Numbers
-abbrev pub numbersMean : Numbers → Result Handing
-numbersMean (Numbers.Allocated T f) = value (record { total = T; further = f })
-numbersMean (Numbers.Refused n) = refused n
 
 -- a number that stood behind an argument, and the one that stands there after the call
 pub record Number : Type 0 where

@@ -2,85 +2,21 @@
 mod day;
 mod explain;
 
+use answer_numbers::Numbers;
+use answer_numbers::numbers_of;
+use answer_numbers::terms_of;
 use assignment_text::Response;
-use forms::Form;
-use series::Answer;
-use series::Contracts;
-use series::Method;
-use series::Terms;
 use series_text::Reading;
 use series_text::letters::Named;
 use text_writing::Writing;
 ghost use mathlib.Core.Path.{_≡_};
 ghost use lib.ListN.{length};
-ghost use Rattle.series.specs.Results.{value, after, status};
-ghost use Rattle.series.specs.Answers.{answerOf};
+ghost use Rattle.series.specs.Results.{after, status};
 ghost use Rattle.series.specs.Outputs.{onto};
 ghost use Rattle.text_rules.specs.Calls.{readInto, changeInto};
 ghost use Rattle.text_writing.specs.Answers.{writingOf};
-ghost use Rattle.dilbreth.specs.Exports.{formBy, formNumber, listingBy, numbersMean, handedNumbers, Allocates, Reads, writtenBy, printedInto, Writes};
+ghost use Rattle.dilbreth.specs.Exports.{listingBy, Allocates, Reads, writtenBy, printedInto, Writes};
 
-// The form of a number: 0 is shorts, any other number last numbers.
-fn form_by(number: u32) -> Form
-    ensures { λ r. ⌜ r ≡ formBy number ⌝ }
-{
-    if number == 0 {
-        return Form::Shorts;
-    }
-    Form::LastNumbers
-}
-
-// The number of a form.
-fn number_of(form: Form) -> u32
-    ensures { λ r. ⌜ r ≡ formNumber form ⌝ }
-{
-    match form {
-        Form::Shorts => 0,
-        Form::LastNumbers => 1,
-    }
-}
-
-// The values of a series, from numbers.
-fn terms_of(method: Method, exercised: u32, draw: u32) -> Terms
-    ensures { λ r. ⌜ r ≡ record { method = method; exercised = record { 0 = exercised }; draw = draw } ⌝ }
-{
-    Terms {
-        method,
-        exercised: Contracts(exercised),
-        draw,
-    }
-}
-
-// What an answer hands back to C: T and the further number, 0 where there is none; or the number of the refusal.
-enum Numbers {
-    Allocated { total: u32, further: u32 },
-    Refused(u32),
-}
-
-// The numbers of an allocation.
-fn allocated(total: Contracts, further: u32) -> Numbers
-    ensures { λ r. ⌜ numbersMean r ≡ value (record { total = total .0; further = further }) ⌝ }
-{
-    Numbers::Allocated {
-        total: total.0,
-        further,
-    }
-}
-
-// The numbers of an answer.
-fn numbers_of(answer: Answer) -> Numbers
-    ensures { λ r. ⌜ numbersMean r ≡ handedNumbers (answerOf answer) ⌝ }
-{
-    match answer {
-        Answer::Wheel { total, blocks } => allocated(total, blocks),
-        Answer::ProRata { total, remainder } => allocated(total, remainder.0),
-        Answer::Lottery { total, start } => allocated(total, start.0),
-        Answer::LotteryUndrawn { total } => allocated(total, 0),
-        Answer::RemainderDraw { total, start } => allocated(total, start.0),
-        Answer::RemainderUndrawn { total } => allocated(total, 0),
-        Answer::Refused(refusal) => Numbers::Refused(series::number(refusal)),
-    }
-}
 
 // Assigns exercised contracts by the method W, P, L or R; any other letter is 14.
 #[no_mangle]
@@ -102,7 +38,7 @@ pub extern "C" fn dilbreth_allocate(
         return 14;
     };
     let terms = terms_of(named, exercised, draw);
-    let answer = listing::allocate(form_by(form), terms, codes, accounts, numbers, amounts);
+    let answer = listing::allocate(answer_numbers::form_by(form), terms, codes, accounts, numbers, amounts);
     match numbers_of(answer) {
         Numbers::Allocated {
             total: sum,
@@ -144,7 +80,7 @@ pub extern "C" fn dilbreth_read(
             *method = series_text::letters::letter_of(named);
             *exercised = terms.exercised.0;
             *draw = terms.draw;
-            *form = number_of(listed);
+            *form = answer_numbers::number_of(listed);
             *positions = n;
             0
         }
@@ -184,7 +120,7 @@ pub extern "C" fn dilbreth_write(
         return 14;
     };
     let terms = terms_of(named, exercised, draw);
-    let writing = text_writing::write(form_by(form), terms, codes, accounts, numbers, text);
+    let writing = text_writing::write(answer_numbers::form_by(form), terms, codes, accounts, numbers, text);
     hand_length(writing, written)
 }
 

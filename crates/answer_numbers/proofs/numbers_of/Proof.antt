@@ -1,9 +1,9 @@
 -- `numbers_of` meets its contract: each answer's own numbers.
 use mathlib.Core.Path.{refl}
-use Rattle.dilbreth.specs.Exports.{handedNumbers}
+use Rattle.answer_numbers.specs.Numbers.{handedNumbers}
 use borrow.Author.Needs.{needs}
-use Rattle.dilbreth.proofs.numbers_of.Statement.{statement}
-use Rattle.dilbreth.proofs.numbers_of.Tie as tie
+use Rattle.answer_numbers.proofs.numbers_of.Statement.{statement}
+use Rattle.answer_numbers.proofs.numbers_of.Tie as tie
 
 enum-known-answer : tie.Need-enum-known-answer
 enum-known-answer c = search needs

@@ -1,11 +1,11 @@
 -- `number_of` meets its contract.
 use mathlib.Core.Path.{refl}
-use Rattle.dilbreth.specs.Exports.{formNumber}
+use Rattle.answer_numbers.specs.Numbers.{formNumber}
 use borrow.Author.Needs.{needs}
-use Rattle.dilbreth.proofs.number_of.Statement.{statement}
-use Rattle.dilbreth.proofs.number_of.Tie as tie
-use Rattle.dilbreth.proofs.number_of.Reads as reads
-use Rattle.dilbreth.proofs.number_of.Lts as lts
+use Rattle.answer_numbers.proofs.number_of.Statement.{statement}
+use Rattle.answer_numbers.proofs.number_of.Tie as tie
+use Rattle.answer_numbers.proofs.number_of.Reads as reads
+use Rattle.answer_numbers.proofs.number_of.Lts as lts
 
 enum-told : tie.Need-enum-told
 enum-told c = search needs

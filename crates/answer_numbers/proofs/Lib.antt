@@ -1,0 +1,2 @@
+-- Laws of the numbers of C.
+mod FormLaws

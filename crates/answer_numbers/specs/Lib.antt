@@ -1,0 +1,2 @@
+-- What an answer hands back.
+pub mod Numbers
