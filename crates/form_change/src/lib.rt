@@ -1,6 +1,6 @@
 // The change: from a text of either form to the text of the other.
 use forms::Form;
-use list_judging::Judged;
+use rising_lists::Judged;
 use series::Terms;
 use series_text::Reading;
 use text_writing::Writing;

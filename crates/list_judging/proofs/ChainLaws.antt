@@ -11,15 +11,8 @@ use native.Mathlib.Numerals.{add-one, lt-of-le-of-ne}
 use borrow.Author.Tests.{eq-eqb, ne-eqb, eqb-true, eqb-false}
 use Rattle.series.specs.Series.{MOST_POSITIONS}
 use Rattle.series.specs.Refusals.{standsIn}
-use Rattle.list_judging.specs.Chains.{downFrom, lastIn, Chains}
-
--- an account above all earlier ones is none of them
-pub above-all : (f : ℕ → ℕ) (a i : ℕ) → ((j : ℕ) → j < i → f j < a) → standsIn a (downFrom f i) ≡ false
-unfolding standsIn downFrom
-above-all f a zero h = refl
-above-all f a (suc i) h =
-    let other : a ≡ f i → ⊥ = λ e. omega (arith, h i (omega arith)) in
-    rw (ne-eqb a (f i) other) (above-all f a i (λ j lt. h j (omega arith)))
+use Rattle.rising_lists.specs.Earlier.{downFrom}
+use Rattle.list_judging.specs.Chains.{lastIn, Chains}
 
 module _ (bucketOf f : ℕ → ℕ) where
   pub last-within : (b i : ℕ) → lastIn bucketOf f b i ≤ i

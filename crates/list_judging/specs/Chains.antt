@@ -2,7 +2,7 @@
 use Prim.Native.Nat.{ℕ, zero, suc, _*_, _/_, _%_, _≤_, _<_}
 use mathlib.Core.Path.{_≡_}
 use mathlib.Core.Bool.{cond}
-use mathlib.Core.List.{List, [], _∷_}
+use mathlib.Core.List.{List}
 use lib.Dec.{eqb}
 use lib.ListN.{length, getD}
 use Rattle.series.specs.Series.{MOST_POSITIONS}
@@ -10,15 +10,6 @@ use Rattle.series.specs.Series.{MOST_POSITIONS}
 -- the bucket of an account, one of 4,096: the upper twelve bits of a product, since accounts often share their low bits
 unfoldable pub bucket : ℕ → ℕ
 bucket a = a * 2654435761 % 4294967296 / 1048576
-
--- f (n - 1), .., f 1, f 0
-unfoldable pub downFrom : (ℕ → ℕ) → ℕ → List ℕ
-downFrom f zero = []
-downFrom f (suc n) = f n ∷ downFrom f n
-
--- the accounts before position i, the last one first
-abbrev pub earlier : List ℕ → ℕ → List ℕ
-earlier accounts i = downFrom (λ j. getD accounts j 0) i
 
 -- one more than the largest j below i with f j in bucket b, or 0 where there is none
 unfoldable pub lastIn : (ℕ → ℕ) → (ℕ → ℕ) → ℕ → ℕ → ℕ

@@ -4,7 +4,8 @@ ghost use Prim.Native.Nat.{suc, _<_};
 ghost use lib.ListN.{length, getD};
 ghost use Rattle.series.specs.Series.{MOST_POSITIONS};
 ghost use Rattle.series.specs.Refusals.{standsIn};
-ghost use Rattle.list_judging.specs.Chains.{bucket, earlier, Linked};
+ghost use Rattle.rising_lists.specs.Earlier.{earlier};
+ghost use Rattle.list_judging.specs.Chains.{bucket, Linked};
 
 // The bucket of an account.
 fn bucket_of(account: u32) -> usize

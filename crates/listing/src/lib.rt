@@ -1,6 +1,6 @@
 // The calls on a list in either form: judging it alone, and the allocating call.
 use forms::Form;
-use list_judging::Judged;
+use rising_lists::Judged;
 use series::Answer;
 use series::Method;
 use series::Terms;
@@ -8,7 +8,7 @@ ghost use mathlib.Core.Path.{_≡_};
 ghost use Rattle.series.specs.Answers.{answerOf};
 ghost use Rattle.forms.specs.Forms.{inForm, listVerdictIn, ListingCall};
 ghost use Rattle.forms.specs.declared.Form.{Form as Form·};
-ghost use Rattle.list_judging.specs.Judged.{judgedOf};
+ghost use Rattle.rising_lists.specs.Judged.{judgedOf};
 
 // The verdict on a list in a form, from the verdict on its shorts.
 fn judged_in(form: Form, judged: Judged) -> Judged

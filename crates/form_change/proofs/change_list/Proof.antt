@@ -3,7 +3,7 @@ use mathlib.Core.Path.{sym, ap, _∙_}
 use lib.ListN.{length}
 use Rattle.forms.specs.Forms.{Listing}
 use Rattle.text_rules.specs.Calls.{changedInto}
-use Rattle.list_judging.specs.Judged.{judgedOf}
+use Rattle.rising_lists.specs.Judged.{judgedOf}
 use Rattle.form_change.proofs.CallLaws.{judged-small, refused-writes, list-refused, written-other}
 use borrow.Author.Needs.{needs}
 use Rattle.form_change.proofs.change_list.Statement.{statement}

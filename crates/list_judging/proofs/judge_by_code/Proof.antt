@@ -3,8 +3,8 @@ use mathlib.Core.Path.{subst, sym, _∙_}
 use Rattle.series.specs.Places.{total}
 use Rattle.series.specs.Refusals.{first, listRows}
 use Rattle.series.specs.declared.Method.{Method}
-use Rattle.list_judging.specs.Judged.{walkTells, fallsLate}
-use Rattle.list_judging.specs.declared.Walk.{Walk}
+use Rattle.rising_lists.specs.Judged.{walkTells, fallsLate}
+use Rattle.rising_lists.specs.declared.Walk.{Walk}
 use borrow.Author.Needs.{needs}
 use Rattle.list_judging.proofs.judge_by_code.Statement.{statement}
 use Rattle.list_judging.proofs.judge_by_code.Tie as tie

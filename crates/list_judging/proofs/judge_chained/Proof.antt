@@ -8,7 +8,7 @@ use borrow.Author.Needs.{needs}
 use Rattle.series.specs.Results.{refused}
 use Rattle.series.specs.declared.Method.{Method}
 use Rattle.list_judging.specs.Chains.{Linked}
-use Rattle.list_judging.proofs.ListLaws.{Judging, judging-start, refused-order, refused-account, refused-shorts, left-enough, judging-next, judged-all}
+use Rattle.rising_lists.proofs.ListLaws.{Judging, judging-start, refused-order, refused-account, refused-shorts, left-enough, judging-next, judged-all}
 use Rattle.list_judging.proofs.judge_chained.Statement.{statement}
 use Rattle.list_judging.proofs.judge_chained.Tie as tie
 

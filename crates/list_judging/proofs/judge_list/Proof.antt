@@ -1,6 +1,6 @@
 -- `judge_list` meets its contract: a list is judged with an output of its own length.
 use borrow.Author.Needs.{needs}
-use Rattle.list_judging.specs.Judged.{judgedOf}
+use Rattle.rising_lists.specs.Judged.{judgedOf}
 use Rattle.list_judging.proofs.ListLaws.{judged-list}
 use Rattle.list_judging.proofs.judge_list.Statement.{statement}
 use Rattle.list_judging.proofs.judge_list.Tie as tie

@@ -2,7 +2,7 @@
 use mathlib.Core.Path.{sym, ap, _∙_}
 use Rattle.series.specs.Results.{refused}
 use Rattle.forms.specs.Forms.{inForm}
-use Rattle.list_judging.specs.Judged.{judgedOf}
+use Rattle.rising_lists.specs.Judged.{judgedOf}
 use borrow.Author.Needs.{needs}
 use Rattle.listing.proofs.judged_in.Statement.{statement}
 use Rattle.listing.proofs.judged_in.Tie as tie

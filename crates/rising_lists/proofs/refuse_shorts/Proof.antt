@@ -2,8 +2,8 @@
 use mathlib.Core.Path.{sym, ap}
 use mathlib.Core.Bool.{cond}
 use borrow.Author.Tests.{eq-eqb, ne-eqb}
-use Rattle.list_judging.proofs.refuse_shorts.Statement.{statement}
-use Rattle.list_judging.proofs.refuse_shorts.Tie as tie
+use Rattle.rising_lists.proofs.refuse_shorts.Statement.{statement}
+use Rattle.rising_lists.proofs.refuse_shorts.Tie as tie
 
 returns : tie.Need-returns
 returns c = sym (ap (λ t. cond t 6 7) (eq-eqb (c .before .args .count) 0 (c .if1 .taken)))

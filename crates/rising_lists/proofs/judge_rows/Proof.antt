@@ -1,8 +1,8 @@
 -- `judge_rows` meets its contract: the rows of the length in turn, and then the walk over the positions.
-use Rattle.list_judging.specs.Judged.{EvenList}
-use Rattle.list_judging.proofs.ListLaws.{refused-lengths, refused-codes, refused-many, refused-none, refused-room, walked}
-use Rattle.list_judging.proofs.judge_rows.Statement.{statement}
-use Rattle.list_judging.proofs.judge_rows.Tie as tie
+use Rattle.rising_lists.specs.Judged.{EvenList}
+use Rattle.rising_lists.proofs.ListLaws.{refused-lengths, refused-codes, refused-many, refused-none, refused-room, walked}
+use Rattle.rising_lists.proofs.judge_rows.Statement.{statement}
+use Rattle.rising_lists.proofs.judge_rows.Tie as tie
 
 returns : tie.Need-returns
 returns c = let a = c .before .before .before .before .args in (λ m. refused-lengths m (a .order .now) (a .accounts .now) (a .shorts .now) (a .room) (c .if1 .taken), (tt, tt))

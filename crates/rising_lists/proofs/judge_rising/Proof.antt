@@ -6,9 +6,9 @@ use lib.ListN.{length}
 use borrow.Author.Needs.{needs}
 use Rattle.series.specs.Results.{refused}
 use Rattle.series.specs.declared.Method.{Method}
-use Rattle.list_judging.proofs.ListLaws.{Rising, rising-start, rising-falls, rising-new, rising-next, refused-order, refused-shorts, left-enough, judged-all}
-use Rattle.list_judging.proofs.judge_rising.Statement.{statement}
-use Rattle.list_judging.proofs.judge_rising.Tie as tie
+use Rattle.rising_lists.proofs.ListLaws.{Rising, rising-start, rising-falls, rising-new, rising-next, refused-order, refused-shorts, left-enough, judged-all}
+use Rattle.rising_lists.proofs.judge_rising.Statement.{statement}
+use Rattle.rising_lists.proofs.judge_rising.Tie as tie
 
 abbrev Inv-loop : tie.InvT-loop
 Inv-loop order accounts shorts before₀ highest₀ left₀ i₀ before highest left i = Rising order accounts shorts before highest left i

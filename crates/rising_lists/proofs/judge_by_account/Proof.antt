@@ -2,11 +2,11 @@
 use mathlib.Core.Path.{refl, subst}
 use Rattle.series.specs.Places.{total}
 use Rattle.series.specs.Refusals.{first, listRows}
-use Rattle.list_judging.specs.Judged.{walkTells, fallsOnly}
-use Rattle.list_judging.specs.declared.Walk.{Walk}
+use Rattle.rising_lists.specs.Judged.{walkTells, fallsOnly}
+use Rattle.rising_lists.specs.declared.Walk.{Walk}
 use borrow.Author.Needs.{needs}
-use Rattle.list_judging.proofs.judge_by_account.Statement.{statement}
-use Rattle.list_judging.proofs.judge_by_account.Tie as tie
+use Rattle.rising_lists.proofs.judge_by_account.Statement.{statement}
+use Rattle.rising_lists.proofs.judge_by_account.Tie as tie
 
 judge-rows-requires : tie.Need-judge-rows-requires
 judge-rows-requires c κs = search needs

@@ -1,0 +1,2 @@
+-- Laws of judging a list.
+pub mod ListLaws
