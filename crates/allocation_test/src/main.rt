@@ -1,9 +1,8 @@
 // Calls of the allocating call, a line for each: a label, the answer, and every element of an output that held 7 eight times. Then lists and calls that are only judged.
-// The calls stand in the file stdin, a line for each; a line that begins with `#` says what the next ones are. A line is a label and a colon, a letter (a: allocated, l: only the list is judged, j: the call is judged), the method's letter, and four lists, each ended by a semicolon: S, the draw and the room; codes; accounts; shorts. A space ends each number, and `4097*` stands for so many ones.
-use allocation::allocate;
+// The calls stand in the file stdin, a line for each; a line that begins with `#` says what the next ones are. A line is a label and a colon, a letter (a: allocated, b: allocated by last numbers, l: only the list is judged, m: only the list of last numbers is judged, j: the call is judged), the method's letter, and four lists, each ended by a semicolon: S, the draw and the room; codes; accounts; shorts or last numbers. A space ends each number, and `4097*` stands for so many ones.
+use forms::Form;
 use judging::Judged;
 use judging::judge;
-use judging::judge_list;
 use series::Answer;
 use series::Contracts;
 use series::Method;
@@ -65,26 +64,41 @@ fn print_judged(judged: Judged) {
 }
 
 // Makes a call that is lent the first room elements of the output, and prints all of them.
-fn show_allocated(terms: Terms, codes: &[u32], accounts: &[u32], shorts: &[u32], room: usize) {
+fn show_allocated(
+    form: Form,
+    terms: Terms,
+    codes: &[u32],
+    accounts: &[u32],
+    numbers: &[u32],
+    room: usize,
+) {
     if room > 8 {
         return;
     }
     let mut amounts = [7u32; 8];
-    let answer = allocate(terms, codes, accounts, shorts, &mut amounts[..room]);
+    let answer = listing::allocate(form, terms, codes, accounts, numbers, &mut amounts[..room]);
     print_answer(answer);
     print(b" :");
     print_list(&amounts);
 }
 
+// Judges a list alone.
+fn show_list(form: Form, terms: Terms, codes: &[u32], accounts: &[u32], numbers: &[u32]) {
+    let method = terms.method;
+    print_judged(listing::judge_list(
+        form, method, codes, accounts, numbers,
+    ));
+}
+
 // Allocates or judges, by the letter of a line.
-fn show(letter: u8, terms: Terms, codes: &[u32], accounts: &[u32], shorts: &[u32], room: u32) {
+fn show(letter: u8, terms: Terms, codes: &[u32], accounts: &[u32], numbers: &[u32], room: u32) {
+    let room = room as usize;
     match letter {
-        b'l' => {
-            let method = terms.method;
-            print_judged(judge_list(method, codes, accounts, shorts));
-        }
-        b'j' => print_judged(judge(terms, codes, accounts, shorts, room as usize)),
-        _ => show_allocated(terms, codes, accounts, shorts, room as usize),
+        b'l' => show_list(Form::Shorts, terms, codes, accounts, numbers),
+        b'm' => show_list(Form::LastNumbers, terms, codes, accounts, numbers),
+        b'j' => print_judged(judge(terms, codes, accounts, numbers, room)),
+        b'b' => show_allocated(Form::LastNumbers, terms, codes, accounts, numbers, room),
+        _ => show_allocated(Form::Shorts, terms, codes, accounts, numbers, room),
     }
 }
 
@@ -162,11 +176,11 @@ fn show_lists(text: &[u8], at: usize, letter: u8, method: Method) {
     let mut values = [0u32; 3];
     let mut codes = [1u32; 4097];
     let mut accounts = [1u32; 4097];
-    let mut shorts = [1u32; 4097];
+    let mut numbers = [1u32; 4097];
     let first = list_at(text, at, &mut values);
     let second = list_at(text, first.next, &mut codes);
     let third = list_at(text, second.next, &mut accounts);
-    let fourth = list_at(text, third.next, &mut shorts);
+    let fourth = list_at(text, third.next, &mut numbers);
     let terms = Terms {
         method,
         exercised: Contracts(values[0]),
@@ -174,13 +188,13 @@ fn show_lists(text: &[u8], at: usize, letter: u8, method: Method) {
     };
     let coded = second.length;
     let listed = third.length;
-    let short = fourth.length;
+    let numbered = fourth.length;
     show(
         letter,
         terms,
         &codes[..coded],
         &accounts[..listed],
-        &shorts[..short],
+        &numbers[..numbered],
         values[2],
     );
 }

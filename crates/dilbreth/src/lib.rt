@@ -17,7 +17,6 @@ ghost use Rattle.text_rules.specs.Calls.{readInto, changeInto};
 ghost use Rattle.text_writing.specs.Answers.{writingOf};
 ghost use Rattle.dilbreth.specs.Exports.{listingBy, Allocates, Reads, writtenBy, printedInto, Writes};
 
-
 // Assigns exercised contracts by the method W, P, L or R; any other letter is 14.
 #[no_mangle]
 pub extern "C" fn dilbreth_allocate(
@@ -38,7 +37,8 @@ pub extern "C" fn dilbreth_allocate(
         return 14;
     };
     let terms = terms_of(named, exercised, draw);
-    let answer = listing::allocate(answer_numbers::form_by(form), terms, codes, accounts, numbers, amounts);
+    let listed = answer_numbers::form_by(form);
+    let answer = listing::allocate(listed, terms, codes, accounts, numbers, amounts);
     match numbers_of(answer) {
         Numbers::Allocated {
             total: sum,
@@ -120,7 +120,8 @@ pub extern "C" fn dilbreth_write(
         return 14;
     };
     let terms = terms_of(named, exercised, draw);
-    let writing = text_writing::write(answer_numbers::form_by(form), terms, codes, accounts, numbers, text);
+    let wanted = answer_numbers::form_by(form);
+    let writing = text_writing::write(wanted, terms, codes, accounts, numbers, text);
     hand_length(writing, written)
 }
 

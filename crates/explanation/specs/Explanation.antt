@@ -4,10 +4,10 @@ use mathlib.Core.List.{List, [], _∷_}
 use lib.ListN.{getD}
 use Rattle.series.specs.Ascii.{ascii}
 
--- the lines of the refusals 1 to 19
+-- the lines of the refusals 1 to 20
 unfoldable pub refusals : List (List ℕ)
 refusals =
-    ascii "codes, accounts and shorts differ in length\n" ∷
+    ascii "codes, accounts and numbers differ in length\n" ∷
     ascii "there are more than 4,096 positions\n" ∷
     ascii "there are no positions\n" ∷
     ascii "an output is too short\n" ∷
@@ -25,7 +25,8 @@ refusals =
     ascii "a count of the day is above 10,000,000\n" ∷
     ascii "closing purchases exceed short plus opening sales\n" ∷
     ascii "more is exercised than the day's limit\n" ∷
-    ascii "an account is 0 or stands earlier in the list\n" ∷ []
+    ascii "an account is 0 or stands earlier in the list\n" ∷
+    ascii "a last number is 0 or not above the one before\n" ∷ []
 
 -- the line of any other number
 unfoldable pub noRefusal : List ℕ

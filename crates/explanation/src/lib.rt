@@ -26,7 +26,7 @@ pub fn explain(number: u32, line: &mut [u8]) -> usize
     ensures { λ r. ⌜ r ≤ longest ⌝ }
 {
     match number {
-        1 => put(b"codes, accounts and shorts differ in length\n", line),
+        1 => put(b"codes, accounts and numbers differ in length\n", line),
         2 => put(b"there are more than 4,096 positions\n", line),
         3 => put(b"there are no positions\n", line),
         4 => put(b"an output is too short\n", line),
@@ -45,6 +45,7 @@ pub fn explain(number: u32, line: &mut [u8]) -> usize
         17 => put(b"closing purchases exceed short plus opening sales\n", line),
         18 => put(b"more is exercised than the day's limit\n", line),
         19 => put(b"an account is 0 or stands earlier in the list\n", line),
+        20 => put(b"a last number is 0 or not above the one before\n", line),
         _ => put(b"no refusal has this number\n", line),
     }
 }

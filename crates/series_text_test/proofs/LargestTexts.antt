@@ -10,7 +10,8 @@ use lib.ListN.{length, getD, replicate, length-append, length-replicate, List·g
 use lib.Seq.{getD-append-add}
 use Rattle.series.specs.Ascii.{ascii}
 use Rattle.series.specs.Results.{refused, value, status}
-use Rattle.series.specs.Series.{Series}
+use Rattle.forms.specs.Forms.{Listing}
+use Rattle.forms.specs.declared.Form.{Form}
 use Rattle.series.specs.Sums.{listed}
 use Rattle.series.specs.declared.Method.{Method}
 use Rattle.text_rules.specs.Numbers.{LARGEST, decimalIn, decimal}
@@ -26,21 +27,21 @@ use Rattle.text_rules.proofs.LengthLaws.{linesOf, lines-next-length, lines-all,
 use Rattle.text_rules.proofs.RoundTrip.{Writable, round-trip, too-long}
 
 -- n positions of the largest numbers, of 33 bytes each with the code column, and then one more
-pub large : ℕ → ℕ → ℕ → ℕ → Series
-large n code account short =
+pub large : ℕ → ℕ → ℕ → ℕ → Listing
+large n code account number =
     let then : ℕ → List ℕ = λ k. replicate n 4294967295 ++ (k ∷ []) in
-    record { terms = record { method = Method.Lottery; exercised = record { 0 = 13 }; draw = 4855 }; codes = then code; accounts = then account; shorts = then short }
+    record { form = Form.Shorts; terms = record { method = Method.Lottery; exercised = record { 0 = 13 }; draw = 4855 }; codes = then code; accounts = then account; numbers = then number }
 
 -- the definitions that a line, the head and the tests before them compute with
-computing : Series → Text
+computing : Listing → Text
 unfolding large endBefore namesLine letter ascii decimalIn decimal writeNumber writeRow writeTerms writeHead sameNumbers writesCodes evenly lineCount headAndLines writeInto lengthOf
 computing t = writeText t
 
 -- a series whose text has 32,768 bytes, and one whose text has one more
-pub most : Series
+pub most : Listing
 most = large 991 10000 100 101
 
-pub over : Series
+pub over : Listing
 over = large 991 100000 100 101
 
 -- ---- n of the largest number, and then k
@@ -67,7 +68,7 @@ filled-columns : (n code account short : ℕ) → n < 1024 → Columns (filled n
 filled-columns n code account short lt =
     record {
       codes = filled-length n code ∙ sym (filled-length n account);
-      shorts = filled-length n short ∙ sym (filled-length n account);
+      numbers = filled-length n short ∙ sym (filled-length n account);
       few = omega (arith, filled-length n account);
     }
 
@@ -100,17 +101,17 @@ module _ (n code account short : ℕ) where
       let line : length (writeRow (rows n)) ≡ length (writeRow (code ∷ account ∷ short ∷ [])) = ap (λ r. length (writeRow r)) row-last in
       sym (ap length (lines-all (filled n code) (filled n account ∷ filled n short ∷ []) (n + 1) (sym (filled-length n code)))) ∙ lines-next-length rows n ∙ omega (arith, lines-first n (omega arith))
 
-head-long : length (writeHead true (large 0 0 0 0 .terms)) ≡ 51
+head-long : length (writeHead true Form.Shorts (large 0 0 0 0 .terms)) ≡ 51
 unfolding computing
 head-long = refl
 
 -- ---- what is written
 
-most-columns : Columns (most .codes) (most .accounts) (most .shorts)
+most-columns : Columns (most .codes) (most .accounts) (most .numbers)
 unfolding most large
 most-columns = filled-columns 991 10000 100 101 (omega arith)
 
-over-columns : Columns (over .codes) (over .accounts) (over .shorts)
+over-columns : Columns (over .codes) (over .accounts) (over .numbers)
 unfolding over large
 over-columns = filled-columns 991 100000 100 101 (omega arith)
 
@@ -125,7 +126,7 @@ over-coded = refl
 -- the length of a text with the code column
 text-long : (n code account short : ℕ) → writesCodes (large n code account short) ≡ true → length (writeText (large n code account short)) ≡ 51 + (33 * n + length (writeRow (code ∷ account ∷ short ∷ [])))
 unfolding writeText textWith large
-text-long n code account short coded = rw coded (length-append (writeHead true _) (writeRows (rowsOf (filled n code ∷ filled n account ∷ filled n short ∷ []))) ∙ ap₂ _+_ head-long (lines-long n code account short))
+text-long n code account short coded = rw coded (length-append (writeHead true _ _) (writeRows (rowsOf (filled n code ∷ filled n account ∷ filled n short ∷ []))) ∙ ap₂ _+_ head-long (lines-long n code account short))
 
 most-long : length (writeText most) ≡ 32768
 unfolding computing most
@@ -136,14 +137,14 @@ unfolding computing over
 over-long = text-long 991 100000 100 101 over-coded
 
 -- an output that is too short, and one that is not
-module _ (t : Series) (l : Columns (t .codes) (t .accounts) (t .shorts)) (fits : length (writeText t) ≤ MOST_BYTES) (room : ℕ) where
+module _ (t : Listing) (l : Columns (t .codes) (t .accounts) (t .numbers)) (fits : length (writeText t) ≤ MOST_BYTES) (room : ℕ) where
   room-short : room < length (writeText t) → writeInto t room ≡ refused 4
   unfolding writeInto writeText textWith
-  room-short lt = rw (lines-written (writeHead (writesCodes t) (t .terms)) (writesCodes t) (t .codes) (t .accounts) (t .shorts) l, le-ltb MOST_BYTES _ fits, lt-ltb room _ lt)
+  room-short lt = rw (lines-written (writeHead (writesCodes t) (t .form) (t .terms)) (writesCodes t) (t .codes) (t .accounts) (t .numbers) l, le-ltb MOST_BYTES _ fits, lt-ltb room _ lt)
 
   room-enough : length (writeText t) ≤ room → writeInto t room ≡ value (writeText t)
   unfolding writeInto writeText textWith
-  room-enough le = rw (lines-written (writeHead (writesCodes t) (t .terms)) (writesCodes t) (t .codes) (t .accounts) (t .shorts) l, le-ltb MOST_BYTES _ fits, le-ltb room _ le)
+  room-enough le = rw (lines-written (writeHead (writesCodes t) (t .form) (t .terms)) (writesCodes t) (t .codes) (t .accounts) (t .numbers) l, le-ltb MOST_BYTES _ fits, le-ltb room _ le)
 
 too-many : lengthOf (writeInto (large 1024 1 2 3) 0) ≡ refused 15
 unfolding computing
@@ -171,7 +172,7 @@ most-writable =
       draw = omega arith;
       codes = filled-fits 991 10000 (omega arith);
       accounts = filled-fits 991 100 (omega arith);
-      shorts = filled-fits 991 101 (omega arith);
+      numbers = filled-fits 991 101 (omega arith);
       lists = filled-columns 991 10000 100 101 (omega arith);
     }
 

@@ -1,4 +1,5 @@
-// Reads and rewrites texts, and prints what it got. A lent list holds 7s before the call, an output dots.
+// Reads, rewrites and changes texts, and prints what it got. A lent list holds 7s before the call, an output dots.
+use forms::Form;
 use libc::STDIN_FILENO;
 use libc::STDOUT_FILENO;
 use series::Contracts;
@@ -38,6 +39,14 @@ fn print_method(method: Method) {
     }
 }
 
+// The form, where it is that of last numbers.
+fn print_form(form: Form) {
+    match form {
+        Form::Shorts => {}
+        Form::LastNumbers => print(b"last numbers "),
+    }
+}
+
 fn print_terms(terms: Terms) {
     let method = terms.method;
     let exercised = terms.exercised;
@@ -52,10 +61,9 @@ fn print_refusal(refusal: Refusal) {
     print(b"\n");
 }
 
-// Writes a series to an output of 96 bytes, and prints the answer and the whole output.
-fn rewrite(terms: Terms, codes: &[u32], accounts: &[u32], shorts: &[u32]) {
-    let mut output = [b'.'; 96];
-    match text_writing::write(terms, codes, accounts, shorts, &mut output) {
+// What a call that writes answered, and its whole output.
+fn print_writing(writing: Writing, output: &[u8]) {
+    match writing {
         Writing::Written(n) => {
             print(b"written ");
             print_number(n as u64);
@@ -63,45 +71,71 @@ fn rewrite(terms: Terms, codes: &[u32], accounts: &[u32], shorts: &[u32]) {
         }
         Writing::Refused(refusal) => print_refusal(refusal),
     }
-    print(&output);
+    print(output);
     print(b"\n");
 }
 
+// Writes a series to an output of 96 bytes.
+fn rewrite(form: Form, terms: Terms, codes: &[u32], accounts: &[u32], numbers: &[u32]) {
+    let mut output = [b'.'; 96];
+    let writing = text_writing::write(form, terms, codes, accounts, numbers, &mut output);
+    print_writing(writing, &output);
+}
+
+// Changes a text to an output of 80 bytes.
+fn change(text: &[u8]) {
+    let mut output = [b'.'; 80];
+    let writing = form_change::change(text, &mut output);
+    print_writing(writing, &output);
+}
+
 // Rewrites the first n positions of three lists.
-fn rewrite_first(terms: Terms, codes: &[u32], accounts: &[u32], shorts: &[u32], n: usize) {
+fn rewrite_first(
+    form: Form,
+    terms: Terms,
+    codes: &[u32],
+    accounts: &[u32],
+    numbers: &[u32],
+    n: usize,
+) {
     if n > codes.len() {
         return;
     }
     if n > accounts.len() {
         return;
     }
-    if n > shorts.len() {
+    if n > numbers.len() {
         return;
     }
-    rewrite(terms, &codes[..n], &accounts[..n], &shorts[..n]);
+    rewrite(form, terms, &codes[..n], &accounts[..n], &numbers[..n]);
 }
 
 // Reads a text into lists of 6, prints what they hold, and rewrites the series.
 fn reread(text: &[u8]) {
     let mut codes = [7u32; 6];
     let mut accounts = [7u32; 6];
-    let mut shorts = [7u32; 6];
-    match series_text::read(text, &mut codes, &mut accounts, &mut shorts) {
+    let mut numbers = [7u32; 6];
+    match series_text::read(text, &mut codes, &mut accounts, &mut numbers) {
         Reading::Refused(refusal) => {
             print_refusal(refusal);
             print_list(&codes);
             print_list(&accounts);
-            print_list(&shorts);
+            print_list(&numbers);
         }
-        Reading::Series { terms, positions } => {
+        Reading::Series {
+            form,
+            terms,
+            positions,
+        } => {
             print(b"read ");
+            print_form(form);
             print_terms(terms);
             print_number(positions as u64);
             print(b"\n");
             print_list(&codes);
             print_list(&accounts);
-            print_list(&shorts);
-            rewrite_first(terms, &codes, &accounts, &shorts, positions);
+            print_list(&numbers);
+            rewrite_first(form, terms, &codes, &accounts, &numbers, positions);
         }
     }
 }
@@ -120,6 +154,17 @@ fn index_of(text: &[u8], at: usize, byte: u8) -> usize
     i
 }
 
+// Reads a text, or changes one that stands after a `!`.
+fn show(text: &[u8]) {
+    if text.len() == 0 {
+        return reread(text);
+    }
+    if text[0] == b'!' {
+        return change(&text[1..]);
+    }
+    reread(text);
+}
+
 // The texts of the file stdin, each ended by a bar and byte 10; one that begins with `#` says what the next ones are.
 fn texts() {
     let mut input = [0u8; 8192];
@@ -128,7 +173,7 @@ fn texts() {
     while at < n {
         let end = index_of(&input, at, b'|');
         if input[at] != b'#' {
-            reread(&input[at..end]);
+            show(&input[at..end]);
         }
         at = end + 2;
     }
@@ -184,10 +229,11 @@ fn terms(method: Method, exercised: u32, draw: u32) -> Terms {
 // What writing refuses: 1 for each list, and 4.
 fn writings() {
     let values = terms(Method::Lottery, 13, 4855);
-    rewrite(values, &[1, 2, 3], &[1, 2, 3], &[5, 8]);
-    rewrite(values, &[1, 2], &[1, 2, 3], &[5, 8, 2]);
-    rewrite(values, &[1, 2], &[1], &[5, 8]);
+    rewrite(Form::Shorts, values, &[1, 2, 3], &[1, 2, 3], &[5, 8]);
+    rewrite(Form::Shorts, values, &[1, 2], &[1, 2, 3], &[5, 8, 2]);
+    rewrite(Form::Shorts, values, &[1, 2], &[1], &[5, 8]);
     rewrite(
+        Form::LastNumbers,
         terms(Method::ProRata, 4294967295, 4294967295),
         &[4294967295, 4294967295],
         &[4294967295, 4294967295],
@@ -200,9 +246,9 @@ fn long_writings() {
     let few = terms(Method::Wheel, 1, 1);
     let codes = [1000000000u32; 1025];
     let large = [4294967295u32; 1025];
-    rewrite(few, &codes, &large, &large);
-    rewrite_first(few, &codes, &large, &large, 1024);
-    rewrite_first(few, &large, &large, &large, 1024);
+    rewrite(Form::Shorts, few, &codes, &large, &large);
+    rewrite_first(Form::Shorts, few, &codes, &large, &large, 1024);
+    rewrite_first(Form::LastNumbers, few, &large, &large, &large, 1024);
 }
 
 fn main() {

@@ -47,8 +47,8 @@ array-share-prefix-accounts c = search needs
 slice-aggregate-show-2 : tie.Need-slice-aggregate-show-2
 slice-aggregate-show-2 c = sym (length-take-le _ _ (search needs))
 
-array-share-prefix-shorts : tie.Need-array-share-prefix-shorts
-array-share-prefix-shorts c = search needs
+array-share-prefix-numbers : tie.Need-array-share-prefix-numbers
+array-share-prefix-numbers c = search needs
 
 slice-aggregate-show-3 : tie.Need-slice-aggregate-show-3
 slice-aggregate-show-3 c = sym (length-take-le _ _ (search needs))
@@ -80,7 +80,7 @@ show-lists-spec =
     slice-aggregate-show
     array-share-prefix-accounts
     slice-aggregate-show-2
-    array-share-prefix-shorts
+    array-share-prefix-numbers
     slice-aggregate-show-3
     array-read-show-2
     show-requires

@@ -127,6 +127,12 @@ slice-aggregate-put-20 c = search needs
 put-requires-20 : tie.Need-put-requires-20
 put-requires-20 c κs = search needs
 
+slice-aggregate-put-21 : tie.Need-slice-aggregate-put-21
+slice-aggregate-put-21 c = search needs
+
+put-requires-21 : tie.Need-put-requires-21
+put-requires-21 c κs = search needs
+
 same-length : tie.Need-same-length
 same-length c = search needs
 
@@ -264,8 +270,15 @@ same-length-20 : tie.Need-same-length-20
 same-length-20 c = search needs
 
 returns-20 : tie.Need-returns-20
+unfolding explanation refusals ascii
+returns-20 c = let a = c .before .before .before .before .before .before .before .args in told (a .number) (a .line .now) (explanation 20) _ _ (ap explanation (c .before .before .before .before .before .match .keys20)) (c .before .before .put20 .ensures .0) (c .before .before .put20 .ensures .1)
+
+same-length-21 : tie.Need-same-length-21
+same-length-21 c = search needs
+
+returns-21 : tie.Need-returns-21
 unfolding noRefusal ascii
-returns-20 c = let a = c .before .before .before .before .before .before .before .args in told (a .number) (a .line .now) noRefusal _ _ (no-refusal _ (c .before .before .before .before .before .match .rest)) (c .before .before .put20 .ensures .0) (c .before .before .put20 .ensures .1)
+returns-21 c = let a = c .before .before .before .before .before .before .before .args in told (a .number) (a .line .now) noRefusal _ _ (no-refusal _ (c .before .before .before .before .before .match .rest)) (c .before .before .put21 .ensures .0) (c .before .before .put21 .ensures .1)
 
 pub explain-spec : {M : Type 1} → statement M
 explain-spec =
@@ -311,6 +324,8 @@ explain-spec =
     put-requires-19
     slice-aggregate-put-20
     put-requires-20
+    slice-aggregate-put-21
+    put-requires-21
     same-length
     returns
     same-length-2
@@ -350,4 +365,6 @@ explain-spec =
     same-length-19
     returns-19
     same-length-20
-    returns-20)
+    returns-20
+    same-length-21
+    returns-21)

@@ -22,7 +22,7 @@ slice-aggregate-rewrite-2 : tie.Need-slice-aggregate-rewrite-2
 slice-aggregate-rewrite-2 c = let a = c .before .before .before .before .before .before .before .before .args in sym (length-take-le (a .n) (a .accounts .now) (omega arith))
 
 slice-aggregate-rewrite-3 : tie.Need-slice-aggregate-rewrite-3
-slice-aggregate-rewrite-3 c = let a = c .before .before .before .before .before .before .before .before .before .args in sym (length-take-le (a .n) (a .shorts .now) (omega arith))
+slice-aggregate-rewrite-3 c = let a = c .before .before .before .before .before .before .before .before .before .args in sym (length-take-le (a .n) (a .numbers .now) (omega arith))
 
 rewrite-requires : tie.Need-rewrite-requires
 rewrite-requires c κs = search needs
