@@ -1,6 +1,6 @@
 // Writing a row: a line of numbers. Each number but the last is ended by a comma, the last by byte 10.
-use crate::put::digits_of;
 use crate::put::put_number;
+use text_fields::digits::digits_of;
 use text_fields::ends::end_before;
 ghost use mathlib.Core.Path.{_≡_};
 ghost use Prim.Native.Nat.{_+_, _*_, _≤_};

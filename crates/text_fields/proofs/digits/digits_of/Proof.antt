@@ -1,8 +1,8 @@
--- `put::digits_of` meets its contract: one law, at each power of ten.
+-- `digits::digits_of` meets its contract: one law, at each power of ten.
 use native.Mathlib.Omega.{arith}
 use Rattle.text_rules.proofs.DecimalLaws.{digits-one, digits-at}
-use Rattle.text_writing.proofs.put.digits_of.Statement.{statement}
-use Rattle.text_writing.proofs.put.digits_of.Tie as tie
+use Rattle.text_fields.proofs.digits.digits_of.Statement.{statement}
+use Rattle.text_fields.proofs.digits.digits_of.Tie as tie
 
 returns : tie.Need-returns
 returns c = digits-one (c .before .args .n) (c .if1 .taken)
