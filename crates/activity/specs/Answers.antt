@@ -2,7 +2,7 @@
 use Prim.Native.Nat.{ℕ}
 use Rattle.series.specs.Results.{Result, refused, value}
 use Rattle.series.specs.Answers.{numberOf}
-use Rattle.activity.specs.declared.AfterDay.{AfterDay}
+use Rattle.activity_rules.specs.declared.AfterDay.{AfterDay}
 use Rattle.activity.specs.declared.InvestorDay.{InvestorDay}
 use Rattle.activity.specs.declared.MarketMakerDay.{MarketMakerDay}
 

@@ -1,4 +1,2 @@
--- The day's activity as definitions, in document 02's order; the enums' values; what private functions ask.
-pub mod Activity
+-- The enums' values.
 pub mod Answers
-pub mod Parts

@@ -1,47 +1,16 @@
 // The day's activity before assignment: how many contracts an investor or a market-maker may exercise on a day, and what an investor is long and short after it, by the sequence of source document 003.
+pub use activity_rules::AfterDay;
+pub use activity_rules::Day;
+pub use activity_rules::Investor;
+pub use activity_rules::MarketMaker;
+pub use activity_rules::Transactions;
 use series::Contracts;
 use series::Refusal;
 ghost use mathlib.Core.Path.{_≡_};
 ghost use Prim.Native.Nat.{_-_};
-ghost use Rattle.activity.specs.Activity.{ordinaryDay, finalDay, afterDay, marketMakerLimit, anyAbove, investorCounts, marketMakerCounts, closesAboveShort, investorDay, marketMakerDay};
+ghost use Rattle.activity_rules.specs.Activity.{ordinaryDay, finalDay, afterDay, marketMakerLimit, anyAbove, investorCounts, marketMakerCounts, closesAboveShort, investorDay, marketMakerDay};
+ghost use Rattle.activity_rules.specs.Parts.{Counted};
 ghost use Rattle.activity.specs.Answers.{investorAnswer, marketMakerAnswer};
-ghost use Rattle.activity.specs.Parts.{Counted};
-
-// The kinds of day: any but the final trading day, and that day.
-pub enum Day {
-    Ordinary,
-    Final,
-}
-
-// Purchases, or sales, of a day, marked as opening and as closing transactions.
-pub struct Transactions {
-    pub opening: Contracts,
-    pub closing: Contracts,
-}
-
-// What an investor (a firm or a customer) gives of a day: long and short at its opening, the transactions, and the contracts to exercise.
-pub struct Investor {
-    pub long: Contracts,
-    pub short: Contracts,
-    pub purchases: Transactions,
-    pub sales: Transactions,
-    pub exercised: Contracts,
-}
-
-// What a market-maker gives of a day, who does not mark his transactions.
-pub struct MarketMaker {
-    pub long: Contracts,
-    pub short: Contracts,
-    pub purchases: Contracts,
-    pub sales: Contracts,
-}
-
-// What an investor gets: how many contracts he may exercise, and long and short after the day.
-pub struct AfterDay {
-    pub limit: Contracts,
-    pub long: Contracts,
-    pub short: Contracts,
-}
 
 pub enum InvestorDay {
     After(AfterDay),

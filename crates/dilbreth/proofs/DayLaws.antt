@@ -2,11 +2,11 @@
 use Prim.Native.Nat.{ℕ, zero, suc}
 use mathlib.Core.Path.{_≡_, refl}
 use Rattle.series.specs.Results.{Result, after, status}
-use Rattle.activity.specs.Activity.{investorDay, marketMakerDay}
-use Rattle.activity.specs.declared.Day.{Day}
-use Rattle.activity.specs.declared.Investor.{Investor}
-use Rattle.activity.specs.declared.MarketMaker.{MarketMaker}
-use Rattle.activity.specs.declared.AfterDay.{AfterDay}
+use Rattle.activity_rules.specs.Activity.{investorDay, marketMakerDay}
+use Rattle.activity_rules.specs.declared.Day.{Day}
+use Rattle.activity_rules.specs.declared.Investor.{Investor}
+use Rattle.activity_rules.specs.declared.MarketMaker.{MarketMaker}
+use Rattle.activity_rules.specs.declared.AfterDay.{AfterDay}
 use Rattle.dilbreth.specs.Days.{dayBy, Processes, Limits}
 
 pub ordinary-by : (n : ℕ) → n ≡ 0 → Day.Ordinary ≡ dayBy n

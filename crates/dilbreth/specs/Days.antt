@@ -2,8 +2,8 @@
 use Prim.Native.Nat.{ℕ, zero, suc}
 use mathlib.Core.Path.{_≡_}
 use Rattle.series.specs.Results.{Result, after, status}
-use Rattle.activity.specs.declared.Day.{Day}
-use Rattle.activity.specs.declared.AfterDay.{AfterDay}
+use Rattle.activity_rules.specs.declared.Day.{Day}
+use Rattle.activity_rules.specs.declared.AfterDay.{AfterDay}
 use Rattle.dilbreth.specs.Exports.{Number}
 
 -- the kind of day: 0 is ordinary, any other number the final trading day

@@ -7,7 +7,7 @@ use activity::MarketMakerDay;
 use activity::Transactions;
 use series::Contracts;
 ghost use mathlib.Core.Path.{_≡_};
-ghost use Rattle.activity.specs.Activity.{investorOf, marketMakerOf, investorDay, marketMakerDay};
+ghost use Rattle.activity_rules.specs.Activity.{investorOf, marketMakerOf, investorDay, marketMakerDay};
 ghost use Rattle.dilbreth.specs.Days.{dayBy, Processes, Limits};
 
 // The kind of day by its number: 0 is ordinary, any other the final trading day.

@@ -1,6 +1,6 @@
 -- `after_day` meets its contract: what the kind of day gives.
 use mathlib.Core.Path.{sym, ap, _∙_}
-use Rattle.activity.specs.Activity.{afterDay}
+use Rattle.activity_rules.specs.Activity.{afterDay}
 use borrow.Author.Needs.{needs}
 use Rattle.activity.proofs.after_day.Statement.{statement}
 use Rattle.activity.proofs.after_day.Tie as tie

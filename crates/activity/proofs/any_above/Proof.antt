@@ -5,8 +5,8 @@ use native.Mathlib.Numerals.{add-one}
 use native.Mathlib.Omega.{arith}
 use borrow.Author.Needs.{needs}
 use lib.ListN.{length, drop}
-use Rattle.activity.specs.Activity.{anyAbove}
-use Rattle.activity.proofs.CountLaws.{above-found, above-passed, above-end}
+use Rattle.activity_rules.specs.Activity.{anyAbove}
+use Rattle.activity_rules.proofs.CountLaws.{above-found, above-passed, above-end}
 use Rattle.activity.proofs.any_above.Statement.{statement}
 use Rattle.activity.proofs.any_above.Tie as tie
 

@@ -1,7 +1,7 @@
 -- `final_day` meets its contract: the two sides, and what each exceeds the other by.
 use native.Mathlib.Omega.{arith}
-use Rattle.activity.specs.Activity.{finalDay}
-use Rattle.activity.proofs.DayLaws.{after-is}
+use Rattle.activity_rules.specs.Activity.{finalDay}
+use Rattle.activity_rules.proofs.DayLaws.{after-is}
 use borrow.Author.Needs.{needs}
 use Rattle.activity.proofs.final_day.Statement.{statement}
 use Rattle.activity.proofs.final_day.Tie as tie

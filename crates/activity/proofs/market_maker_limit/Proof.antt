@@ -1,8 +1,8 @@
 -- `market_maker_limit` meets its contract: the limit of the kind of day.
 use mathlib.Core.Path.{_≡_, sym, ap, _∙_}
 use native.Mathlib.Omega.{arith}
-use Rattle.activity.specs.Activity.{marketMakerLimit}
-use Rattle.activity.specs.declared.Day.{Day}
+use Rattle.activity_rules.specs.Activity.{marketMakerLimit}
+use Rattle.activity_rules.specs.declared.Day.{Day}
 use borrow.Author.Needs.{needs}
 use Rattle.activity.proofs.market_maker_limit.Statement.{statement}
 use Rattle.activity.proofs.market_maker_limit.Tie as tie

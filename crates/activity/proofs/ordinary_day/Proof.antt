@@ -1,7 +1,7 @@
 -- `ordinary_day` meets its contract: the circular's sequence, step by step.
 use native.Mathlib.Omega.{arith}
-use Rattle.activity.specs.Activity.{ordinaryDay}
-use Rattle.activity.proofs.DayLaws.{after-is}
+use Rattle.activity_rules.specs.Activity.{ordinaryDay}
+use Rattle.activity_rules.proofs.DayLaws.{after-is}
 use borrow.Author.Needs.{needs}
 use Rattle.activity.proofs.ordinary_day.Statement.{statement}
 use Rattle.activity.proofs.ordinary_day.Tie as tie

@@ -1,7 +1,7 @@
 -- `process_investor` meets its contract: 16, 17, 18 in this order, else what the kind of day gives.
 use mathlib.Core.Path.{sym, _∙_}
-use Rattle.activity.proofs.CountLaws.{counted}
-use Rattle.activity.proofs.DayLaws.{refused-count, refused-closing, refused-exercised, processed}
+use Rattle.activity_rules.proofs.CountLaws.{counted}
+use Rattle.activity_rules.proofs.DayLaws.{refused-count, refused-closing, refused-exercised, processed}
 use borrow.Author.Needs.{needs}
 use Rattle.activity.proofs.process_investor.Statement.{statement}
 use Rattle.activity.proofs.process_investor.Tie as tie

@@ -1,7 +1,7 @@
 -- `process_market_maker` meets its contract: 16, else the limit.
 use mathlib.Core.Path.{sym, _∙_}
-use Rattle.activity.proofs.CountLaws.{counted}
-use Rattle.activity.proofs.DayLaws.{maker-refused, maker-limited}
+use Rattle.activity_rules.proofs.CountLaws.{counted}
+use Rattle.activity_rules.proofs.DayLaws.{maker-refused, maker-limited}
 use borrow.Author.Needs.{needs}
 use Rattle.activity.proofs.process_market_maker.Statement.{statement}
 use Rattle.activity.proofs.process_market_maker.Tie as tie

@@ -11,13 +11,13 @@ use Rattle.series.specs.Results.{refused, value}
 use Rattle.series.specs.Series.{MOST_CONTRACTS}
 use Rattle.series.specs.Refusals.{first, NoneApplies}
 use Rattle.series.proofs.RowLaws.{value-passed, value-same}
-use Rattle.activity.specs.Activity.{both, ordinaryDay, finalDay, afterDay, marketMakerLimit, anyAbove, investorCounts, closesAboveShort, investorRows, investorDay}
-use Rattle.activity.specs.declared.Day.{Day}
-use Rattle.activity.specs.declared.Investor.{Investor}
-use Rattle.activity.specs.declared.MarketMaker.{MarketMaker}
-use Rattle.activity.specs.declared.AfterDay.{AfterDay}
-use Rattle.activity.proofs.CountLaws.{counted, none-above}
-use Rattle.activity.proofs.DayLaws.{processed}
+use Rattle.activity_rules.specs.Activity.{both, ordinaryDay, finalDay, afterDay, marketMakerLimit, anyAbove, investorCounts, closesAboveShort, investorRows, investorDay}
+use Rattle.activity_rules.specs.declared.Day.{Day}
+use Rattle.activity_rules.specs.declared.Investor.{Investor}
+use Rattle.activity_rules.specs.declared.MarketMaker.{MarketMaker}
+use Rattle.activity_rules.specs.declared.AfterDay.{AfterDay}
+use Rattle.activity_rules.proofs.CountLaws.{counted, none-above}
+use Rattle.activity_rules.proofs.DayLaws.{processed}
 
 -- what holds where an investor meets no refusal and gets a
 pub record AcceptedDay (d : Day) (i : Investor) (a : AfterDay) : Type 0 where

@@ -9,8 +9,8 @@ use lib.ListN.{length, getD, drop, drop-of-length-le}
 use lib.Seq.{drop-cons}
 use Rattle.series.specs.Series.{MOST_CONTRACTS}
 use Rattle.series.proofs.AcceptedLaws.{or-false}
-use Rattle.activity.specs.Activity.{anyAbove}
-use Rattle.activity.specs.Parts.{Counted}
+use Rattle.activity_rules.specs.Activity.{anyAbove}
+use Rattle.activity_rules.specs.Parts.{Counted}
 
 module _ (ns : List ℕ) (i : ℕ) (h : i < length ns) where
   -- a count above the most

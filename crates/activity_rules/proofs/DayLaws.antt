@@ -5,11 +5,11 @@ use mathlib.Core.Bool.{Bool, true, false}
 use borrow.Author.Tests.{lt-ltb, le-ltb}
 use Rattle.series.specs.Results.{refused, value}
 use Rattle.series.specs.Refusals.{first}
-use Rattle.activity.specs.Activity.{afterDayOf, afterDay, marketMakerLimit, anyAbove, investorCounts, marketMakerCounts, closesAboveShort, investorRows, marketMakerRows, investorDay, marketMakerDay}
-use Rattle.activity.specs.declared.Day.{Day}
-use Rattle.activity.specs.declared.Investor.{Investor}
-use Rattle.activity.specs.declared.MarketMaker.{MarketMaker}
-use Rattle.activity.specs.declared.AfterDay.{AfterDay}
+use Rattle.activity_rules.specs.Activity.{afterDayOf, afterDay, marketMakerLimit, anyAbove, investorCounts, marketMakerCounts, closesAboveShort, investorRows, marketMakerRows, investorDay, marketMakerDay}
+use Rattle.activity_rules.specs.declared.Day.{Day}
+use Rattle.activity_rules.specs.declared.Investor.{Investor}
+use Rattle.activity_rules.specs.declared.MarketMaker.{MarketMaker}
+use Rattle.activity_rules.specs.declared.AfterDay.{AfterDay}
 
 -- what is handed back, by its three counts
 pub after-is : (a : AfterDay) (limit long short : ℕ) → a .limit .0 ≡ limit → a .long .0 ≡ long → a .short .0 ≡ short → a ≡ afterDayOf limit long short

@@ -4,12 +4,12 @@ use mathlib.Core.Path.{_≡_, refl}
 use mathlib.Core.List.{List, [], _∷_, map}
 use Rattle.series.specs.Results.{Result, refused, value}
 use Rattle.series.specs.Refusals.{first}
-use Rattle.activity.specs.Activity.{investorOf, marketMakerOf, afterDayOf, ordinaryDay, finalDay, afterDay, marketMakerLimit, anyAbove, investorRows, marketMakerRows, investorDay, marketMakerDay}
-use Rattle.activity.specs.declared.Day.{Day}
-use Rattle.activity.specs.declared.Day.the-variants.{Ordinary, Final}
-use Rattle.activity.specs.declared.Investor.{Investor}
-use Rattle.activity.specs.declared.MarketMaker.{MarketMaker}
-use Rattle.activity.specs.declared.AfterDay.{AfterDay}
+use Rattle.activity_rules.specs.Activity.{investorOf, marketMakerOf, afterDayOf, ordinaryDay, finalDay, afterDay, marketMakerLimit, anyAbove, investorRows, marketMakerRows, investorDay, marketMakerDay}
+use Rattle.activity_rules.specs.declared.Day.{Day}
+use Rattle.activity_rules.specs.declared.Day.the-variants.{Ordinary, Final}
+use Rattle.activity_rules.specs.declared.Investor.{Investor}
+use Rattle.activity_rules.specs.declared.MarketMaker.{MarketMaker}
+use Rattle.activity_rules.specs.declared.AfterDay.{AfterDay}
 
 -- a day of either
 pub data Activity : Type 0 where

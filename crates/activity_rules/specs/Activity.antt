@@ -6,11 +6,11 @@ use lib.Dec.{ltb}
 use Rattle.series.specs.Results.{Result}
 use Rattle.series.specs.Series.{MOST_CONTRACTS}
 use Rattle.series.specs.Refusals.{Row, _⟶_∣_, first}
-use Rattle.activity.specs.declared.Day.{Day}
-use Rattle.activity.specs.declared.Transactions.{Transactions}
-use Rattle.activity.specs.declared.Investor.{Investor}
-use Rattle.activity.specs.declared.MarketMaker.{MarketMaker}
-use Rattle.activity.specs.declared.AfterDay.{AfterDay}
+use Rattle.activity_rules.specs.declared.Day.{Day}
+use Rattle.activity_rules.specs.declared.Transactions.{Transactions}
+use Rattle.activity_rules.specs.declared.Investor.{Investor}
+use Rattle.activity_rules.specs.declared.MarketMaker.{MarketMaker}
+use Rattle.activity_rules.specs.declared.AfterDay.{AfterDay}
 
 -- an investor gives opening long and short, opening purchases and sales, closing purchases and sales, and the contracts to exercise
 abbrev pub investorOf : ℕ → ℕ → ℕ → ℕ → ℕ → ℕ → ℕ → Investor

@@ -4,9 +4,9 @@ use mathlib.Core.Path.{_≡_, refl}
 use mathlib.Core.List.{List, [], _∷_, map}
 use lib.ListN.{replicate}
 use Rattle.series.specs.Results.{refused, value}
-use Rattle.activity.specs.Activity.{investorOf, marketMakerOf, afterDayOf}
-use Rattle.activity.specs.declared.Day.the-variants.{Ordinary, Final}
-use Rattle.activity.proofs.Circular.{Activity, ofInvestor, ofMaker, gets, limited, outcome}
+use Rattle.activity_rules.specs.Activity.{investorOf, marketMakerOf, afterDayOf}
+use Rattle.activity_rules.specs.declared.Day.the-variants.{Ordinary, Final}
+use Rattle.activity_rules.proofs.Circular.{Activity, ofInvestor, ofMaker, gets, limited, outcome}
 
 -- the largest count
 abbrev most : ℕ
