@@ -85,9 +85,7 @@ fn show_allocated(
 // Judges a list alone.
 fn show_list(form: Form, terms: Terms, codes: &[u32], accounts: &[u32], numbers: &[u32]) {
     let method = terms.method;
-    print_judged(listing::judge_list(
-        form, method, codes, accounts, numbers,
-    ));
+    print_judged(listing::judge_list(form, method, codes, accounts, numbers));
 }
 
 // Allocates or judges, by the letter of a line.

@@ -2,8 +2,6 @@
 use Rattle.answer_numbers.proofs.FormLaws.{shorts-by, lasts-by}
 use Rattle.answer_numbers.proofs.form_by.Statement.{statement}
 use Rattle.answer_numbers.proofs.form_by.Tie as tie
-use Rattle.answer_numbers.proofs.form_by.Reads as reads
-use Rattle.answer_numbers.proofs.form_by.Lts as lts
 
 returns : tie.Need-returns
 returns c = shorts-by _ (c .if1 .taken)

@@ -4,8 +4,6 @@ use Rattle.answer_numbers.specs.Numbers.{formNumber}
 use borrow.Author.Needs.{needs}
 use Rattle.answer_numbers.proofs.number_of.Statement.{statement}
 use Rattle.answer_numbers.proofs.number_of.Tie as tie
-use Rattle.answer_numbers.proofs.number_of.Reads as reads
-use Rattle.answer_numbers.proofs.number_of.Lts as lts
 
 enum-told : tie.Need-enum-told
 enum-told c = search needs

@@ -8,14 +8,6 @@ use Rattle.console.specs.Inputs.{Within}
 use borrow.Author.Needs.{needs}
 use Rattle.assign.proofs.main.Statement.{statement}
 use Rattle.assign.proofs.main.Tie as tie
-use Rattle.assign.proofs.main.Reads as reads
-use Rattle.assign.proofs.main.Lts as lts
-use Rattle.assign.proofs.output_buffer.Reads as output-buffer-reads
-use Rattle.assign.proofs.respond.Reads as respond-reads
-use Rattle.console.proofs.input_buffer.Reads as input-buffer-reads
-use Rattle.console.proofs.read_input.Reads as read-input-reads
-use Rattle.console.proofs.say.Reads as say-reads
-use Rattle.console.proofs.tell.Reads as tell-reads
 
 fits : (c : tie.After-known-told) → c .before .n .given .0 .0 ≤ length (c .before .before .before .before .read-input .last .0)
 fits c = let read = c .before .before .before .before .read-input in omega (arith, subst (λ r. Within r (length (c .before .before .before .before .before .before .before .input-buffer .result))) (c .before .n .given .1) (read .ensures), read .kept .0)

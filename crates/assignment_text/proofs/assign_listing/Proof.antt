@@ -5,10 +5,6 @@ use Rattle.assignment_text.proofs.PrintLaws.{shorts-as, own-shorts, las
 use borrow.Author.Needs.{needs}
 use Rattle.assignment_text.proofs.assign_listing.Statement.{statement}
 use Rattle.assignment_text.proofs.assign_listing.Tie as tie
-use Rattle.assignment_text.proofs.assign_listing.Reads as reads
-use Rattle.assignment_text.proofs.assign_listing.Lts as lts
-use Rattle.assignment_text.proofs.assign.Reads as assign-reads
-use Rattle.forms.proofs.fill_shorts.Reads as fill-shorts-reads
 
 enum-told : tie.Need-enum-told
 enum-told c = search needs

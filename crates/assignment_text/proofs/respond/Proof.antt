@@ -12,11 +12,6 @@ use Rattle.assignment_text.proofs.PrintLaws.{text-refused, text-read}
 use borrow.Author.Needs.{needs}
 use Rattle.assignment_text.proofs.respond.Statement.{statement}
 use Rattle.assignment_text.proofs.respond.Tie as tie
-use Rattle.assignment_text.proofs.respond.Reads as reads
-use Rattle.assignment_text.proofs.respond.Lts as lts
-use Rattle.assignment_text.proofs.assign_listing.Reads as assign-listing-reads
-use Rattle.assignment_text.proofs.refuse.Reads as refuse-reads
-use Rattle.series_text.proofs.read.Reads as read-reads
 
 -- the listing that was read, whose positions stand first in the three lists
 listing-read : (c : tie.After-known-told2) → let line = c .before .form .given .0 in let lists = c .before .before .before .before .before .before .read .last .1 in

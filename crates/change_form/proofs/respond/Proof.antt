@@ -5,10 +5,6 @@ use Rattle.change_form.proofs.RoomLaws.{whole-written, whole-refused}
 use borrow.Author.Needs.{needs}
 use Rattle.change_form.proofs.respond.Statement.{statement}
 use Rattle.change_form.proofs.respond.Tie as tie
-use Rattle.change_form.proofs.respond.Reads as reads
-use Rattle.change_form.proofs.respond.Lts as lts
-use Rattle.assignment_text.proofs.refuse.Reads as refuse-reads
-use Rattle.form_change.proofs.change.Reads as change-reads
 
 change-requires : tie.Need-change-requires
 change-requires c κs = search needs

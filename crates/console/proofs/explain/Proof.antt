@@ -6,13 +6,6 @@ use lib.Seq.{length-take-le}
 use borrow.Author.Needs.{needs}
 use Rattle.console.proofs.explain.Statement.{statement}
 use Rattle.console.proofs.explain.Tie as tie
-use Rattle.console.proofs.explain.Reads as reads
-use Rattle.console.proofs.explain.Lts as lts
-use Rattle.console.proofs.say.Reads as say-reads
-use Rattle.console.proofs.write_whole.Reads as write-whole-reads
-use Rattle.explanation.proofs.explain.Reads as explain-reads
-use Rattle.io.proofs.decimal.Reads as decimal-reads
-use Rattle.series.proofs.number.Reads as number-reads
 
 number-requires : tie.Need-number-requires
 number-requires c κs = search needs

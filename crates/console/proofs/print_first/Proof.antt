@@ -6,9 +6,6 @@ use lib.Seq.{length-take-le}
 use borrow.Author.Needs.{needs}
 use Rattle.console.proofs.print_first.Statement.{statement}
 use Rattle.console.proofs.print_first.Tie as tie
-use Rattle.console.proofs.print_first.Reads as reads
-use Rattle.console.proofs.print_first.Lts as lts
-use Rattle.console.proofs.print.Reads as print-reads
 
 print-requires : tie.Need-print-requires
 print-requires c κs = search needs

@@ -5,10 +5,6 @@ use Rattle.assignment_text.specs.Responses.{responseOf}
 use borrow.Author.Needs.{needs}
 use Rattle.console.proofs.tell.Statement.{statement}
 use Rattle.console.proofs.tell.Tie as tie
-use Rattle.console.proofs.tell.Reads as reads
-use Rattle.console.proofs.tell.Lts as lts
-use Rattle.console.proofs.explain.Reads as explain-reads
-use Rattle.console.proofs.print_first.Reads as print-first-reads
 
 enum-known-response : tie.Need-enum-known-response
 enum-known-response c = search needs

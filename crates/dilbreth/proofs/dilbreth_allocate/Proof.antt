@@ -6,13 +6,6 @@ use Rattle.dilbreth.proofs.ExportLaws.{allocate-unknown, allocate-known
 use borrow.Author.Needs.{needs}
 use Rattle.dilbreth.proofs.dilbreth_allocate.Statement.{statement}
 use Rattle.dilbreth.proofs.dilbreth_allocate.Tie as tie
-use Rattle.dilbreth.proofs.dilbreth_allocate.Reads as reads
-use Rattle.dilbreth.proofs.dilbreth_allocate.Lts as lts
-use Rattle.dilbreth.proofs.form_by.Reads as form-by-reads
-use Rattle.dilbreth.proofs.numbers_of.Reads as numbers-of-reads
-use Rattle.dilbreth.proofs.terms_of.Reads as terms-of-reads
-use Rattle.listing.proofs.allocate.Reads as allocate-reads
-use Rattle.series_text.proofs.letters.method_by.Reads as method-by-reads
 
 method-by-requires : tie.Need-method-by-requires
 method-by-requires c κs = search needs

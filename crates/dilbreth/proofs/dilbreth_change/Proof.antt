@@ -3,10 +3,6 @@ use Rattle.dilbreth.proofs.ExportLaws.{by-length}
 use borrow.Author.Needs.{needs}
 use Rattle.dilbreth.proofs.dilbreth_change.Statement.{statement}
 use Rattle.dilbreth.proofs.dilbreth_change.Tie as tie
-use Rattle.dilbreth.proofs.dilbreth_change.Reads as reads
-use Rattle.dilbreth.proofs.dilbreth_change.Lts as lts
-use Rattle.dilbreth.proofs.hand_length.Reads as hand-length-reads
-use Rattle.form_change.proofs.change.Reads as change-reads
 
 change-requires : tie.Need-change-requires
 change-requires c κs = search needs

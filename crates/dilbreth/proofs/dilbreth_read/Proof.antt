@@ -5,12 +5,6 @@ use Rattle.dilbreth.proofs.ExportLaws.{read-hands}
 use borrow.Author.Needs.{needs}
 use Rattle.dilbreth.proofs.dilbreth_read.Statement.{statement}
 use Rattle.dilbreth.proofs.dilbreth_read.Tie as tie
-use Rattle.dilbreth.proofs.dilbreth_read.Reads as reads
-use Rattle.dilbreth.proofs.dilbreth_read.Lts as lts
-use Rattle.dilbreth.proofs.number_of.Reads as number-of-reads
-use Rattle.series.proofs.number.Reads as number-reads
-use Rattle.series_text.proofs.letters.letter_of.Reads as letter-of-reads
-use Rattle.series_text.proofs.read.Reads as read-reads
 
 read-requires : tie.Need-read-requires
 read-requires c κs = search needs

@@ -5,13 +5,6 @@ use Rattle.dilbreth.proofs.ExportLaws.{write-unknown, write-known}
 use borrow.Author.Needs.{needs}
 use Rattle.dilbreth.proofs.dilbreth_write.Statement.{statement}
 use Rattle.dilbreth.proofs.dilbreth_write.Tie as tie
-use Rattle.dilbreth.proofs.dilbreth_write.Reads as reads
-use Rattle.dilbreth.proofs.dilbreth_write.Lts as lts
-use Rattle.dilbreth.proofs.form_by.Reads as form-by-reads
-use Rattle.dilbreth.proofs.hand_length.Reads as hand-length-reads
-use Rattle.dilbreth.proofs.terms_of.Reads as terms-of-reads
-use Rattle.series_text.proofs.letters.method_by.Reads as method-by-reads
-use Rattle.text_writing.proofs.write.Reads as write-reads
 
 method-by-requires : tie.Need-method-by-requires
 method-by-requires c κs = search needs

@@ -5,9 +5,6 @@ use Rattle.text_writing.specs.Answers.{writingOf}
 use borrow.Author.Needs.{needs}
 use Rattle.dilbreth.proofs.hand_length.Statement.{statement}
 use Rattle.dilbreth.proofs.hand_length.Tie as tie
-use Rattle.dilbreth.proofs.hand_length.Reads as reads
-use Rattle.dilbreth.proofs.hand_length.Lts as lts
-use Rattle.series.proofs.number.Reads as number-reads
 
 enum-known-writing : tie.Need-enum-known-writing
 enum-known-writing c = search needs

@@ -13,10 +13,6 @@ use Rattle.form_change.proofs.CallLaws.{refused-writes, text-refused, w
 use borrow.Author.Needs.{needs}
 use Rattle.form_change.proofs.change.Statement.{statement}
 use Rattle.form_change.proofs.change.Tie as tie
-use Rattle.form_change.proofs.change.Reads as reads
-use Rattle.form_change.proofs.change.Lts as lts
-use Rattle.form_change.proofs.change_list.Reads as change-list-reads
-use Rattle.series_text.proofs.read.Reads as read-reads
 
 -- the listing that was read, whose positions stand first in the three lists
 listing-read : (c : tie.After-known-told2) → let line = c .before .form .given .0 in let lists = c .before .before .before .before .before .before .read .last .1 in

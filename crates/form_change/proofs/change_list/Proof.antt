@@ -8,12 +8,6 @@ use Rattle.form_change.proofs.CallLaws.{judged-small, refused-writes, l
 use borrow.Author.Needs.{needs}
 use Rattle.form_change.proofs.change_list.Statement.{statement}
 use Rattle.form_change.proofs.change_list.Tie as tie
-use Rattle.form_change.proofs.change_list.Reads as reads
-use Rattle.form_change.proofs.change_list.Lts as lts
-use Rattle.form_change.proofs.fill_other.Reads as fill-other-reads
-use Rattle.forms.proofs.other.Reads as other-reads
-use Rattle.listing.proofs.judge_list.Reads as judge-list-reads
-use Rattle.text_writing.proofs.write.Reads as write-reads
 
 judge-list-requires : tie.Need-judge-list-requires
 judge-list-requires c κs = search needs

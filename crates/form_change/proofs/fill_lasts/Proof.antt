@@ -6,8 +6,6 @@ use borrow.Author.Needs.{needs}
 use Rattle.form_change.proofs.FillLaws.{Summing, sum-start, sum-long, sum-fits, sum-next, sum-end}
 use Rattle.form_change.proofs.fill_lasts.Statement.{statement}
 use Rattle.form_change.proofs.fill_lasts.Tie as tie
-use Rattle.form_change.proofs.fill_lasts.Reads as reads
-use Rattle.form_change.proofs.fill_lasts.Lts as lts
 
 abbrev Inv-loop : tie.InvT-loop
 Inv-loop shorts lasts₀ sum₀ i₀ lasts sum i = Summing shorts lasts₀ lasts sum i

@@ -5,10 +5,6 @@ use Rattle.form_change.proofs.CallLaws.{by-form-shorts, shorts-other, l
 use borrow.Author.Needs.{needs}
 use Rattle.form_change.proofs.fill_other.Statement.{statement}
 use Rattle.form_change.proofs.fill_other.Tie as tie
-use Rattle.form_change.proofs.fill_other.Reads as reads
-use Rattle.form_change.proofs.fill_other.Lts as lts
-use Rattle.form_change.proofs.fill_lasts.Reads as fill-lasts-reads
-use Rattle.forms.proofs.fill_shorts.Reads as fill-shorts-reads
 
 enum-told : tie.Need-enum-told
 enum-told c = search needs

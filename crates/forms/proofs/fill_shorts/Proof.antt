@@ -7,9 +7,6 @@ use borrow.Author.Needs.{needs}
 use Rattle.forms.proofs.FillLaws.{Filling, fill-start, fill-long, fill-next, fill-end, fill-full}
 use Rattle.forms.proofs.fill_shorts.Statement.{statement}
 use Rattle.forms.proofs.fill_shorts.Tie as tie
-use Rattle.forms.proofs.fill_shorts.Reads as reads
-use Rattle.forms.proofs.fill_shorts.Lts as lts
-use Rattle.forms.proofs.difference.Reads as difference-reads
 
 abbrev Inv-loop : tie.InvT-loop
 Inv-loop lasts shorts₀ before₀ i₀ shorts before i = Filling lasts shorts₀ shorts before i

@@ -4,9 +4,6 @@ use Rattle.forms.proofs.FormLaws.{as-it-is, twenty-for-six, as-other}
 use borrow.Author.Needs.{needs}
 use Rattle.forms.proofs.refusal_in.Statement.{statement}
 use Rattle.forms.proofs.refusal_in.Tie as tie
-use Rattle.forms.proofs.refusal_in.Reads as reads
-use Rattle.forms.proofs.refusal_in.Lts as lts
-use Rattle.series.proofs.number.Reads as number-reads
 
 enum-told : tie.Need-enum-told
 enum-told c = search needs

@@ -3,10 +3,6 @@ use Rattle.listing.proofs.ListingLaws.{called-by-shorts, called-by-last
 use borrow.Author.Needs.{needs}
 use Rattle.listing.proofs.allocate.Statement.{statement}
 use Rattle.listing.proofs.allocate.Tie as tie
-use Rattle.listing.proofs.allocate.Reads as reads
-use Rattle.listing.proofs.allocate.Lts as lts
-use Rattle.allocation.proofs.allocate.Reads as allocate-reads
-use Rattle.listing.proofs.allocate_lasts.Reads as allocate-lasts-reads
 
 enum-told : tie.Need-enum-told
 enum-told c = search needs

@@ -5,11 +5,6 @@ use Rattle.listing.proofs.ListingLaws.{shorts-first, shorts-long, short
 use borrow.Author.Needs.{needs}
 use Rattle.listing.proofs.allocate_lasts.Statement.{statement}
 use Rattle.listing.proofs.allocate_lasts.Tie as tie
-use Rattle.listing.proofs.allocate_lasts.Reads as reads
-use Rattle.listing.proofs.allocate_lasts.Lts as lts
-use Rattle.allocation.proofs.allocate.Reads as allocate-reads
-use Rattle.forms.proofs.fill_shorts.Reads as fill-shorts-reads
-use Rattle.listing.proofs.answer_in.Reads as answer-in-reads
 
 allocate-requires : tie.Need-allocate-requires
 allocate-requires c κs = search needs

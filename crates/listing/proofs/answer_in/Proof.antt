@@ -7,9 +7,6 @@ use Rattle.listing.proofs.ListingLaws.{answered-alike}
 use borrow.Author.Needs.{needs}
 use Rattle.listing.proofs.answer_in.Statement.{statement}
 use Rattle.listing.proofs.answer_in.Tie as tie
-use Rattle.listing.proofs.answer_in.Reads as reads
-use Rattle.listing.proofs.answer_in.Lts as lts
-use Rattle.forms.proofs.refusal_in.Reads as refusal-in-reads
 
 enum-known-answer : tie.Need-enum-known-answer
 enum-known-answer c = search needs

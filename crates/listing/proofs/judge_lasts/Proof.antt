@@ -9,11 +9,6 @@ use Rattle.listing.proofs.ListingLaws.{shorts-first, shorts-long, short
 use borrow.Author.Needs.{needs}
 use Rattle.listing.proofs.judge_lasts.Statement.{statement}
 use Rattle.listing.proofs.judge_lasts.Tie as tie
-use Rattle.listing.proofs.judge_lasts.Reads as reads
-use Rattle.listing.proofs.judge_lasts.Lts as lts
-use Rattle.forms.proofs.fill_shorts.Reads as fill-shorts-reads
-use Rattle.list_judging.proofs.judge_list.Reads as judge-list-reads
-use Rattle.listing.proofs.judged_in.Reads as judged-in-reads
 
 judge-list-requires : tie.Need-judge-list-requires
 judge-list-requires c κs = search needs

@@ -5,10 +5,6 @@ use Rattle.listing.proofs.ListingLaws.{by-shorts}
 use borrow.Author.Needs.{needs}
 use Rattle.listing.proofs.judge_list.Statement.{statement}
 use Rattle.listing.proofs.judge_list.Tie as tie
-use Rattle.listing.proofs.judge_list.Reads as reads
-use Rattle.listing.proofs.judge_list.Lts as lts
-use Rattle.list_judging.proofs.judge_list.Reads as judge-list-reads
-use Rattle.listing.proofs.judge_lasts.Reads as judge-lasts-reads
 
 enum-told : tie.Need-enum-told
 enum-told c = search needs

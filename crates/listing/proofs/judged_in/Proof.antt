@@ -6,9 +6,6 @@ use Rattle.rising_lists.specs.Judged.{judgedOf}
 use borrow.Author.Needs.{needs}
 use Rattle.listing.proofs.judged_in.Statement.{statement}
 use Rattle.listing.proofs.judged_in.Tie as tie
-use Rattle.listing.proofs.judged_in.Reads as reads
-use Rattle.listing.proofs.judged_in.Lts as lts
-use Rattle.forms.proofs.refusal_in.Reads as refusal-in-reads
 
 enum-known-judged : tie.Need-enum-known-judged
 enum-known-judged c = search needs

@@ -6,9 +6,6 @@ use lib.Seq.{slice, length-slice}
 use Rattle.series_text.proofs.LineLaws.{method-other, method-one}
 use Rattle.series_text.proofs.lines.read_method.Statement.{statement}
 use Rattle.series_text.proofs.lines.read_method.Tie as tie
-use Rattle.series_text.proofs.lines.read_method.Reads as reads
-use Rattle.series_text.proofs.lines.read_method.Lts as lts
-use Rattle.series_text.proofs.letters.method_by.Reads as method-by-reads
 
 -- src/lines.rt:54:17
 sub-bytes : tie.Need-sub-bytes
