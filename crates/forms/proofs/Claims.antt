@@ -9,7 +9,7 @@ use Rattle.series.specs.Refusals.{listVerdict}
 use Rattle.series.specs.declared.Method.{Method}
 use Rattle.series.specs.declared.Method.the-variants.{Wheel, ProRata, Lottery, RemainderDraw}
 use Rattle.series.proofs.Starred.{Called, calledOn, allocated, turnedAway}
-use Rattle.forms.specs.Forms.{Listing, differences, sums, seriesIn, inForm, listVerdictIn, changed}
+use Rattle.forms.specs.Forms.{Listing, differences, sums, seriesIn, inForm, verdictIn, listVerdictIn, changed}
 use Rattle.forms.specs.declared.Form.{Form}
 use Rattle.forms.specs.declared.Form.the-variants.{Shorts, LastNumbers}
 
@@ -146,5 +146,5 @@ pub change-known : (changed (numbered Shorts Lottery M-shorts 13 4855) ≡ value
     × (changed (numbered LastNumbers Lottery M-lasts 0 0) ≡ value (numbered Shorts Lottery M-shorts 0 0))
     × (changed (numbered LastNumbers Lottery (5 ∷ 5 ∷ []) 1 1) ≡ refused 20)
     × (changed (numbered Shorts Lottery (5 ∷ 0 ∷ []) 1 1) ≡ refused 6)
-unfolding judgedIn numbered sums changed
+unfolding judgedIn numbered sums changed verdictIn
 change-known = (refl, refl, refl, refl)

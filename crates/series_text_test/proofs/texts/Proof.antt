@@ -28,17 +28,17 @@ index-of-requires c κs = search needs
 array-read-if1 : tie.Need-array-read-if1 Inv-loop μ-loop
 array-read-if1 c = search needs
 
-sub-reread : tie.Need-sub-reread Inv-loop μ-loop
-sub-reread c = search needs
+sub-show : tie.Need-sub-show Inv-loop μ-loop
+sub-show c = search needs
 
-part-reread-start : tie.Need-part-reread-start Inv-loop μ-loop
-part-reread-start c = search needs
+part-show-start : tie.Need-part-show-start Inv-loop μ-loop
+part-show-start c = search needs
 
-part-reread-end : tie.Need-part-reread-end Inv-loop μ-loop
-part-reread-end c = search needs
+part-show-end : tie.Need-part-show-end Inv-loop μ-loop
+part-show-end c = search needs
 
-reread-requires : tie.Need-reread-requires Inv-loop μ-loop
-reread-requires c κs = search needs
+show-requires : tie.Need-show-requires Inv-loop μ-loop
+show-requires c κs = search needs
 
 add-at : tie.Need-add-at Inv-loop μ-loop
 add-at c = search needs
@@ -64,10 +64,10 @@ texts-spec =
     slice-aggregate-index-of
     index-of-requires
     array-read-if1
-    sub-reread
-    part-reread-start
-    part-reread-end
-    reread-requires
+    sub-show
+    part-show-start
+    part-show-end
+    show-requires
     add-at
     loop-less
     loop-again
