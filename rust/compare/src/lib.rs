@@ -120,8 +120,8 @@ fn hold(call: Call, expected: &Result<Allocation, u32>) -> Result<u32, String> {
     ))
 }
 
-// The same list in the other form has the same answer, but for 6 and 20.
-fn in_other_form(number: u32) -> u32 {
+// What a list meets in the other form: the same, but for 6 and 20.
+fn exchanged(number: u32) -> u32 {
     match number {
         6 => 20,
         20 => 6,
@@ -142,7 +142,7 @@ pub fn allocate(method: u8, list: List, exercised: u32, draw: u32, room: usize) 
     }
     let (form, numbers) = make::in_other_form(list);
     let other = List { form, numbers: &numbers, ..list };
-    hold(Call { list: other, ..call }, &expected.map_err(in_other_form))?;
+    hold(Call { list: other, ..call }, &expected.map_err(exchanged))?;
     Ok(number)
 }
 

@@ -53,7 +53,7 @@ impl Series {
     }
 }
 
-pub fn other(form: Form) -> Form {
+fn other_form(form: Form) -> Form {
     match form {
         Form::Shorts => Form::LastNumbers,
         Form::LastNumbers => Form::Shorts,
@@ -71,7 +71,7 @@ pub fn in_other_form(list: List) -> (Form, Vec<u32>) {
         }
         Form::LastNumbers => number.saturating_sub(std::mem::replace(&mut before, number)),
     };
-    (other(list.form), list.numbers.iter().map(next).collect())
+    (other_form(list.form), list.numbers.iter().map(next).collect())
 }
 
 /// 1, 2, ..
@@ -673,7 +673,7 @@ pub fn read_otherwise(text: &[u8]) -> Option<Vec<u8>> {
     let (coded, form) = columns(text)?;
     let from = line_starts(text)[2];
     let mut text = text.to_vec();
-    text.splice(from..from + names(coded, form).len(), names(coded, other(form)).bytes());
+    text.splice(from..from + names(coded, form).len(), names(coded, other_form(form)).bytes());
     Some(text)
 }
 

@@ -28,6 +28,17 @@ fn shown_after(words: &str) -> String {
     block.map_while(|line| line.strip_prefix("    ")).map(|line| format!("{line}\n")).collect()
 }
 
+// What README.md shows for an example: the block after its name, or that of another one, which it names.
+fn shown_for(name: &str) -> String {
+    let words = format!("`examples/{name}.txt`");
+    let rest_of_line = README.split_once(&words).and_then(|(_, rest)| rest.lines().next()).unwrap_or("");
+    let same = rest_of_line.split_once("gives what `examples/").and_then(|(_, rest)| rest.split_once(".txt` gives"));
+    match same {
+        Some((other, _)) => shown_for(other),
+        None => shown_after(&words),
+    }
+}
+
 // The names of the texts, and whether each is refused.
 fn examples() -> Vec<(String, bool)> {
     let paths = fs::read_dir(folder()).unwrap().map(|entry| entry.unwrap().path());
@@ -44,7 +55,7 @@ fn every_example_prints_what_is_stored_and_shown() {
         let found = Assign.run(file(&format!("{name}.txt")).as_bytes(), Feed::Pipe);
         assert_eq!(String::from_utf8(found.stdout).unwrap(), stored, "{name}");
         assert_eq!(found.stderr.is_empty(), !refused, "{name}");
-        assert_eq!(shown_after(&format!("`examples/{name}.txt`")), stored, "{name}");
+        assert_eq!(shown_for(name), stored, "{name}");
     }
     let names = [
         "wheel",

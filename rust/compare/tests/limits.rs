@@ -111,29 +111,32 @@ fn lengths_of_the_lists() {
 fn every_method_byte() {
     let mut count = Count::new("limits, methods");
     for method in 0..=255 {
-        for (form, codes) in FORMS.into_iter().flat_map(|form| [&[1, 2][..], &[1, 3], &[2, 1], &[2]].map(|c| (form, c)))
-        {
-            let list = List { form, codes, ..List::by_account(&[1, 2], &[30, 40]) };
-            count.allocate(method, list, 26, 7, 2);
-            count.case(compare::write(method, 26, 7, list, 100));
-            count.case(compare::write(method, 26, 7, list, 0));
-            count.case(compare::write(method, 26, 7, List { numbers: &[30], ..list }, 100));
+        for form in FORMS {
+            method_byte(&mut count, method, form);
         }
         count.allocate(method, List::by_account(&[], &[1]), 0, 0, 0);
         count.allocate(method, List::by_account(&[0], &[0]), 0, 0, 0);
-        for (coded, lines) in [(false, "1,30\n2,40\n"), (true, "1,2,30\n2,1,40\n"), (false, ""), (true, "5,5,x\n")] {
-            for form in FORMS {
-                let lines = [names(coded, form), lines].concat();
-                let text = [&b"method,exercised,draw\n"[..], &[method], b",26,7\n", lines.as_bytes()].concat();
-                count.case(compare::read(&text, [2; 3]));
-                for room in [100, 20] {
-                    count.case(compare::respond(&text, room));
-                    count.case(compare::change(&text, room));
-                }
-            }
-        }
     }
     count.print();
+}
+
+fn method_byte(count: &mut Count, method: u8, form: Form) {
+    for codes in [&[1, 2][..], &[1, 3], &[2, 1], &[2]] {
+        let list = List { form, codes, ..List::by_account(&[1, 2], &[30, 40]) };
+        count.allocate(method, list, 26, 7, 2);
+        count.case(compare::write(method, 26, 7, list, 100));
+        count.case(compare::write(method, 26, 7, list, 0));
+        count.case(compare::write(method, 26, 7, List { numbers: &[30], ..list }, 100));
+    }
+    for (coded, lines) in [(false, "1,30\n2,40\n"), (true, "1,2,30\n2,1,40\n"), (false, ""), (true, "5,5,x\n")] {
+        let lines = [names(coded, form), lines].concat();
+        let text = [&b"method,exercised,draw\n"[..], &[method], b",26,7\n", lines.as_bytes()].concat();
+        count.case(compare::read(&text, [2; 3]));
+        for room in [100, 20] {
+            count.case(compare::respond(&text, room));
+            count.case(compare::change(&text, room));
+        }
+    }
 }
 
 // Codes for three accounts: the accounts, some that rise, and some with a fault at each position.
@@ -145,10 +148,15 @@ fn codes_for(accounts: [u32; 3]) -> [[u32; 3]; 7] {
 #[test]
 fn several_refusals_at_once() {
     let mut count = Count::new("limits, several refusals");
+    three_positions(&mut count, Form::Shorts, [0, 1, MOST, MOST + 1, u32::MAX]);
+    three_positions(&mut count, Form::LastNumbers, [0, 2, 4, MOST + 1, u32::MAX]);
+    count.print();
+    assert!(!count.met([0, 1, 4, 5, 6, 7, 8, 9, 10, 19, 20]).contains(&0));
+}
+
+fn three_positions(count: &mut Count, form: Form, numbers: [u32; 5]) {
     let accounts = [0, 1, 2, u32::MAX];
-    let kinds = [(Form::Shorts, [0, 1, MOST, MOST + 1, u32::MAX]), (Form::LastNumbers, [0, 2, 4, MOST + 1, u32::MAX])];
-    for (form, numbers, case) in kinds.into_iter().flat_map(|(f, n)| (0..4 * 4 * 4 * 5 * 5 * 5).map(move |c| (f, n, c)))
-    {
+    for case in 0..4usize.pow(3) * 5usize.pow(3) {
         let (mut a, mut n) = ([0; 3], [0; 3]);
         let mut rest = case;
         for i in 0..3 {
@@ -158,17 +166,15 @@ fn several_refusals_at_once() {
             rest /= 5;
         }
         for (c, codes) in codes_for(a).iter().enumerate() {
-            for (count_a, count_n, room) in [(3, 3, 3), (3, 3, 2), (2, 2, 3), (3, 2, 0)] {
-                let list = List { form, codes: &codes[..count_a], accounts: &a[..count_a], numbers: &n[..count_n] };
+            for (of_a, of_n, room) in [(3, 3, 3), (3, 3, 2), (2, 2, 3), (3, 2, 0)] {
+                let list = List { form, codes: &codes[..of_a], accounts: &a[..of_a], numbers: &n[..of_n] };
                 // P, L and R look at no code.
                 for &method in if c == 0 { &METHODS[..] } else { b"W" } {
-                    each_exercised(&mut count, method, list, room);
+                    each_exercised(count, method, list, room);
                 }
             }
         }
     }
-    count.print();
-    assert!(!count.met([0, 1, 4, 5, 6, 7, 8, 9, 10, 19, 20]).contains(&0));
 }
 
 fn each_exercised(count: &mut Count, method: u8, list: List, room: usize) {
@@ -186,14 +192,13 @@ fn each_exercised(count: &mut Count, method: u8, list: List, room: usize) {
 #[test]
 fn accounts_that_are_the_numbers() {
     let mut count = Count::new("limits, one list as all");
-    for (positions, form) in [1, 2, 5, 40, 1_000].into_iter().flat_map(|positions| FORMS.map(|form| (positions, form)))
-    {
+    for positions in [1, 2, 5, 40, 1_000] {
         let numbers = upward(positions);
-        let list = List { form, ..List::by_account(&numbers, &numbers) };
-        let total: u32 = list.shorts().iter().sum();
-        for method in METHODS {
-            for exercised in [1, total / 2, total - 1, total] {
-                for draw in [1, 77] {
+        for form in FORMS {
+            let list = List { form, ..List::by_account(&numbers, &numbers) };
+            let total: u32 = list.shorts().iter().sum();
+            for (method, draw) in METHODS.into_iter().flat_map(|method| [(method, 1), (method, 77)]) {
+                for exercised in [1, total / 2, total - 1, total] {
                     count.allocate(method, list, exercised, draw, positions);
                 }
             }

@@ -8,13 +8,14 @@ const README: &str = include_str!("../../../README.md");
 const HEADER: &str = include_str!("../../../include/dilbreth.h");
 const UNIT: &str = include_str!("../../../include/dilbreth.pas");
 
-// The words of README's table: rows `| number | words | what to do |`.
+// The words of README's table of refusals: rows `| number | words | what to do |`.
 fn readme_table() -> Vec<(u32, String)> {
+    let (_, table) = README.split_once("| Number | What is wrong | What to do |\n").expect("the table of refusals");
     let row = |line: &str| {
         let cells: Vec<&str> = line.strip_prefix('|')?.split('|').map(str::trim).collect();
         Some((cells[0].parse().ok()?, cells[1].to_string()))
     };
-    README.lines().filter_map(row).collect()
+    table.lines().take_while(|line| line.starts_with('|')).filter_map(row).collect()
 }
 
 // The words of the header's table: lines ` *   number  words`.
