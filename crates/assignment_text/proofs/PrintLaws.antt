@@ -31,7 +31,7 @@ use Rattle.series.proofs.ResultLaws.{never, value-is}
 use Rattle.series.proofs.SumLaws.{length-listed}
 use Rattle.series.proofs.AcceptedLaws.{accepted-facts, verdict-accepted}
 use Rattle.series.proofs.Demand3.{length-assigned}
-use Rattle.forms.specs.Forms.{Listing, differences, shortsBy, seriesIn, numberIn, inForm}
+use Rattle.forms.specs.Forms.{Listing, seriesIn, numberIn, inForm}
 use Rattle.forms.specs.declared.Form.{Form}
 use Rattle.text_rules.specs.Fields.{Text}
 use Rattle.text_rules.specs.Rows.{writeRows, rowsOf}
@@ -181,13 +181,6 @@ pub shorts-as : (f : Form) (t : Terms) (codes accounts hs hs′ : List ℕ) (r :
     → Responds r (linesFor (seriesOrRefusal f (record { terms = t; codes = codes; accounts = accounts; shorts = hs }))) (status (seriesOrRefusal f (record { terms = t; codes = codes; accounts = accounts; shorts = hs }))) old new
     → Responds r (linesFor (seriesOrRefusal f (record { terms = t; codes = codes; accounts = accounts; shorts = hs′ }))) (status (seriesOrRefusal f (record { terms = t; codes = codes; accounts = accounts; shorts = hs′ }))) old new
 shorts-as f t codes accounts hs hs′ r old new e p = rw (← e) p
-
--- the shorts of a list in each form
-pub own-shorts : (f : Form) (ns : List ℕ) → f ≡ Form.Shorts → ns ≡ shortsBy f ns
-own-shorts f ns e = rw e refl
-
-pub lasts-shorts : (f : Form) (ns : List ℕ) → f ≡ Form.LastNumbers → differences 0 ns ≡ shortsBy f ns
-lasts-shorts f ns e = rw e refl
 
 -- ---- the whole call
 

@@ -161,27 +161,21 @@ fn assign(
     refuse(forms::refusal_in(form, refusal), output)
 }
 
-// Assigns a listed series of at most 1,024 positions; the shorts of last numbers are made in a lent list.
+// Assigns a listed series of at most 1,024 positions; its shorts are put in the place of its numbers.
 fn assign_listing(
     form: Form,
     terms: Terms,
     codes: &[u32],
     accounts: &[u32],
-    numbers: &[u32],
-    shorts: &mut [u32],
+    numbers: &mut [u32],
     amounts: &mut [u32],
     output: &mut [u8],
 ) -> Response
-    requires { ⌜ Lists (now accounts) (now numbers) (now amounts) × (length (now shorts) ≡ length (now numbers)) ⌝ }
+    requires { ⌜ Lists (now accounts) (now numbers) (now amounts) ⌝ }
     ensures { λ r. ⌜ Responds r (linesFor (seriesOrRefusal form (record { terms = terms; codes = now (codes .entry); accounts = now (accounts .entry); shorts = shortsBy form (now (numbers .entry)) }))) (status (seriesOrRefusal form (record { terms = terms; codes = now (codes .entry); accounts = now (accounts .entry); shorts = shortsBy form (now (numbers .entry)) }))) (now (output .entry)) (now (output .exit)) ⌝ }
 {
-    match form {
-        Form::Shorts => assign(form, terms, codes, accounts, numbers, amounts, output),
-        Form::LastNumbers => {
-            forms::fill_shorts(numbers, shorts);
-            assign(form, terms, codes, accounts, shorts, amounts, output)
-        }
-    }
+    forms::to_shorts(form, numbers);
+    assign(form, terms, codes, accounts, numbers, amounts, output)
 }
 
 // Prints what a text leads to: the amounts of its series, for R with the ranges, or a refusal. An output that is too short keeps its bytes, and bytes past what is printed are kept.
@@ -191,7 +185,6 @@ pub fn respond(text: &[u8], output: &mut [u8]) -> Response
     let mut codes = [0u32; 1024];
     let mut accounts = [0u32; 1024];
     let mut numbers = [0u32; 1024];
-    let mut shorts = [0u32; 1024];
     let mut amounts = [0u32; 1024];
     match series_text::read(text, &mut codes, &mut accounts, &mut numbers) {
         Reading::Refused(refusal) => refuse(refusal, output),
@@ -204,8 +197,7 @@ pub fn respond(text: &[u8], output: &mut [u8]) -> Response
             terms,
             &codes[..positions],
             &accounts[..positions],
-            &numbers[..positions],
-            &mut shorts[..positions],
+            &mut numbers[..positions],
             &mut amounts[..positions],
             output,
         ),

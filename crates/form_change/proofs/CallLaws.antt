@@ -1,6 +1,6 @@
 -- What the change answers and writes, from what its parts answered.
 use Prim.Native.Nat.{ℕ, _≤_}
-use mathlib.Core.Path.{_≡_, refl, sym, ap, ap₂, subst, _∙_}
+use mathlib.Core.Path.{_≡_, refl, sym, ap, subst, _∙_}
 use mathlib.Core.List.{List}
 use native.Mathlib.Omega.{arith}
 use lib.ListN.{length}
@@ -8,11 +8,12 @@ use Rattle.series.specs.Results.{Result, refused, value, _>>=_, after}
 use Rattle.series.specs.Outputs.{onto}
 use Rattle.series.specs.Places.{total}
 use Rattle.series.specs.Series.{MOST_CONTRACTS}
+use Rattle.series.specs.Refusals.{listVerdict}
 use Rattle.series.specs.declared.Method.{Method}
 use Rattle.series.specs.declared.Terms.{Terms}
-use Rattle.forms.specs.Forms.{Listing, differences, sums, shortsBy, listVerdictIn, otherForm, otherNumbers, inOther, changed}
+use Rattle.forms.specs.Forms.{Listing, shortsBy, numberIn, listVerdictIn, otherForm, otherNumbers, inOther, changed}
 use Rattle.forms.specs.declared.Form.{Form}
-use Rattle.forms.proofs.FormLaws.{list-facts, value-in}
+use Rattle.forms.proofs.FormLaws.{list-facts}
 use Rattle.text_rules.specs.Fields.{Text}
 use Rattle.text_rules.specs.Text.{readText}
 use Rattle.text_rules.specs.Calls.{writeInto, changedInto, changeInto, lengthOf}
@@ -26,19 +27,22 @@ pub refused-writes : (n : ℕ) (w : Result Text) (old : List ℕ) → w ≡ refu
 unfolding lengthOf
 refused-writes n w old e = (rw e refl, rw e refl)
 
--- the list is refused
-pub list-refused : (l : Listing) (room n : ℕ) → refused n ≡ listVerdictIn (l .form) (l .terms .method) (l .codes) (l .accounts) (l .numbers) → changedInto l room ≡ refused n
-unfolding changedInto changed
-list-refused l room n e = rw (← e) refl
+-- the verdict on the shorts of a listing
+abbrev pub shortsVerdict : Listing → Result ℕ
+shortsVerdict l = listVerdict (l .terms .method) (l .codes) (l .accounts) (shortsBy (l .form) (l .numbers))
+
+-- the list is refused, by the number of its form
+pub list-refused : (l : Listing) (room n k : ℕ) → refused n ≡ shortsVerdict l → k ≡ numberIn (l .form) n → changedInto l room ≡ refused k
+unfolding changedInto changed listVerdictIn
+list-refused l room n k e is = rw (← e) (ap refused (sym is))
 
 -- the list is judged: its shorts are at most 10,000,000
-pub judged-small : (f : Form) (m : Method) (codes accounts ns : List ℕ) (T : ℕ) → value T ≡ listVerdictIn f m codes accounts ns → total (shortsBy f ns) ≤ MOST_CONTRACTS
-unfolding listVerdictIn
-judged-small f m codes accounts ns T e = list-facts m codes accounts (shortsBy f ns) T (value-in f _ T (sym e)) .small
+pub judged-small : (m : Method) (codes accounts hs : List ℕ) (T : ℕ) → value T ≡ listVerdict m codes accounts hs → total hs ≤ MOST_CONTRACTS
+judged-small m codes accounts hs T e = list-facts m codes accounts hs T (sym e) .small
 
 -- and the other form is written
-pub list-changed : (l : Listing) (room T : ℕ) → value T ≡ listVerdictIn (l .form) (l .terms .method) (l .codes) (l .accounts) (l .numbers) → changedInto l room ≡ writeInto (inOther l) room
-unfolding changedInto changed
+list-changed : (l : Listing) (room T : ℕ) → value T ≡ shortsVerdict l → changedInto l room ≡ writeInto (inOther l) room
+unfolding changedInto changed listVerdictIn
 list-changed l room T e = rw (← e) refl
 
 -- the text is refused, or read
@@ -50,26 +54,20 @@ pub text-read : (s : Text) (l : Listing) (room : ℕ) → readText s ≡ value l
 unfolding changeInto
 text-read s l room e = rw e refl
 
--- ---- the forms
-
-pub by-form-shorts : (f : Form) (ns : List ℕ) → f ≡ Form.Shorts → total (shortsBy f ns) ≤ MOST_CONTRACTS → total ns ≤ MOST_CONTRACTS
-by-form-shorts f ns e small = subst (λ g. total (shortsBy g ns) ≤ MOST_CONTRACTS) e small
-
-pub shorts-other : (f : Form) (ns : List ℕ) → f ≡ Form.Shorts → sums 0 ns ≡ otherNumbers f ns
-shorts-other f ns e = rw e refl
-
-pub lasts-other : (f : Form) (ns : List ℕ) → f ≡ Form.LastNumbers → differences 0 ns ≡ otherNumbers f ns
-lasts-other f ns e = rw e refl
-
 -- the list was judged, its numbers were made in the other form, and it was written
-pub written-other : (l : Listing) (f : Form) (ns : List ℕ) (r : Result ℕ) (old new : List ℕ) (T : ℕ) → value T ≡ listVerdictIn (l .form) (l .terms .method) (l .codes) (l .accounts) (l .numbers)
-    → f ≡ otherForm (l .form) → ns ≡ otherNumbers (l .form) (l .numbers)
-    → Writes r (writeInto (record { form = f; terms = l .terms; codes = l .codes; accounts = l .accounts; numbers = ns }) (length old)) old new → Writes r (changedInto l (length old)) old new
-written-other l f ns r old new T judged form numbers w =
-    let is : writeInto (record { form = f; terms = l .terms; codes = l .codes; accounts = l .accounts; numbers = ns }) (length old) ≡ changedInto l (length old) =
-    ap₂ (λ g ms. writeInto (record { form = g; terms = l .terms; codes = l .codes; accounts = l .accounts; numbers = ms }) (length old)) form numbers ∙ sym (list-changed l (length old) T judged)
+pub written-other : (l : Listing) (ns : List ℕ) (r : Result ℕ) (old new : List ℕ) (T : ℕ) → value T ≡ shortsVerdict l → ns ≡ otherNumbers (l .form) (l .numbers)
+    → Writes r (writeInto (record { form = otherForm (l .form); terms = l .terms; codes = l .codes; accounts = l .accounts; numbers = ns }) (length old)) old new → Writes r (changedInto l (length old)) old new
+written-other l ns r old new T judged numbers w =
+    let is : writeInto (record { form = otherForm (l .form); terms = l .terms; codes = l .codes; accounts = l .accounts; numbers = ns }) (length old) ≡ changedInto l (length old) =
+    ap (λ ms. writeInto (record { form = otherForm (l .form); terms = l .terms; codes = l .codes; accounts = l .accounts; numbers = ms }) (length old)) numbers ∙ sym (list-changed l (length old) T judged)
     in
     subst (λ v. Writes r v old new) is w
+
+-- the same of a form that is told
+pub in-form : (f g : Form) (t : Terms) (codes accounts ns : List ℕ) (r : Result ℕ) (old new : List ℕ) → f ≡ g
+    → Writes r (changedInto (record { form = g; terms = t; codes = codes; accounts = accounts; numbers = ns }) (length old)) old new
+    → Writes r (changedInto (record { form = f; terms = t; codes = codes; accounts = accounts; numbers = ns }) (length old)) old new
+in-form f g t codes accounts ns r old new e w = subst (λ h. Writes r (changedInto (record { form = h; terms = t; codes = codes; accounts = accounts; numbers = ns }) (length old)) old new) (sym e) w
 
 -- the text was read, and its listing changed
 pub written-text : (s : Text) (l : Listing) (r : Result ℕ) (old new : List ℕ) → readText s ≡ value l → Writes r (changedInto l (length old)) old new → Writes r (changeInto s (length old)) old new

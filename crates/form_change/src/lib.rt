@@ -11,7 +11,8 @@ ghost use Rattle.series.specs.Results.{after};
 ghost use Rattle.series.specs.Outputs.{onto};
 ghost use Rattle.series.specs.Places.{total as totalOf};
 ghost use Rattle.series.specs.Series.{MOST_CONTRACTS};
-ghost use Rattle.forms.specs.Forms.{sums, shortsBy, otherNumbers};
+ghost use Rattle.forms.specs.Forms.{sums};
+ghost use Rattle.forms.specs.declared.Form.{Form as Form·};
 ghost use Rattle.text_rules.specs.Calls.{changedInto, changeInto, lengthOf};
 ghost use Rattle.text_writing.specs.Answers.{writingOf};
 
@@ -29,18 +30,55 @@ fn fill_lasts(shorts: &[u32], lasts: &mut [u32])
     }
 }
 
-// Fills in the numbers of a judged list in the other form.
-fn fill_other(form: Form, numbers: &[u32], others: &mut [u32])
-    requires { ⌜ (length (now others) ≡ length (now numbers)) × (totalOf (shortsBy form (now numbers)) ≤ MOST_CONTRACTS) ⌝ }
-    ensures { λ _. ⌜ now (others .exit) ≡ otherNumbers form (now (numbers .entry)) ⌝ }
+// Judges a list of shorts, and writes its text by last numbers, which are made in a lent list.
+fn change_shorts(
+    terms: Terms,
+    codes: &[u32],
+    accounts: &[u32],
+    shorts: &[u32],
+    lasts: &mut [u32],
+    output: &mut [u8],
+) -> Writing
+    requires { ⌜ length (now lasts) ≡ length (now shorts) ⌝ }
+    ensures { λ r. ⌜ writingOf r ≡ lengthOf (changedInto (record { form = Form·.Shorts; terms = terms; codes = now (codes .entry); accounts = now (accounts .entry); numbers = now (shorts .entry) }) (length (now (output .entry)))) ⌝ }
+    ensures { λ _. ⌜ now (output .exit) ≡ after (changedInto (record { form = Form·.Shorts; terms = terms; codes = now (codes .entry); accounts = now (accounts .entry); numbers = now (shorts .entry) }) (length (now (output .entry)))) (λ s. onto s (now (output .entry))) (now (output .entry)) ⌝ }
 {
-    match form {
-        Form::Shorts => fill_lasts(numbers, others),
-        Form::LastNumbers => forms::fill_shorts(numbers, others),
+    let method = terms.method;
+    match list_judging::judge_list(method, codes, accounts, shorts) {
+        Judged::Refused(refusal) => Writing::Refused(refusal),
+        Judged::Accepted(_) => {
+            fill_lasts(shorts, lasts);
+            text_writing::write(Form::LastNumbers, terms, codes, accounts, lasts, output)
+        }
     }
 }
 
-// Judges a list, and writes its text in the other form; the numbers are made in a lent list.
+// Judges a list of last numbers by its shorts, which are made in a lent list, and writes its text by these.
+fn change_lasts(
+    terms: Terms,
+    codes: &[u32],
+    accounts: &[u32],
+    lasts: &[u32],
+    shorts: &mut [u32],
+    output: &mut [u8],
+) -> Writing
+    requires { ⌜ length (now shorts) ≡ length (now lasts) ⌝ }
+    ensures { λ r. ⌜ writingOf r ≡ lengthOf (changedInto (record { form = Form·.LastNumbers; terms = terms; codes = now (codes .entry); accounts = now (accounts .entry); numbers = now (lasts .entry) }) (length (now (output .entry)))) ⌝ }
+    ensures { λ _. ⌜ now (output .exit) ≡ after (changedInto (record { form = Form·.LastNumbers; terms = terms; codes = now (codes .entry); accounts = now (accounts .entry); numbers = now (lasts .entry) }) (length (now (output .entry)))) (λ s. onto s (now (output .entry))) (now (output .entry)) ⌝ }
+{
+    forms::fill_shorts(lasts, shorts);
+    let method = terms.method;
+    match list_judging::judge_list(method, codes, accounts, shorts) {
+        Judged::Refused(refusal) => {
+            Writing::Refused(forms::refusal_in(Form::LastNumbers, refusal))
+        }
+        Judged::Accepted(_) => {
+            text_writing::write(Form::Shorts, terms, codes, accounts, shorts, output)
+        }
+    }
+}
+
+// Changes a list from its form to the other; the numbers are made in a lent list.
 fn change_list(
     form: Form,
     terms: Terms,
@@ -54,13 +92,9 @@ fn change_list(
     ensures { λ r. ⌜ writingOf r ≡ lengthOf (changedInto (record { form = form; terms = terms; codes = now (codes .entry); accounts = now (accounts .entry); numbers = now (numbers .entry) }) (length (now (output .entry)))) ⌝ }
     ensures { λ _. ⌜ now (output .exit) ≡ after (changedInto (record { form = form; terms = terms; codes = now (codes .entry); accounts = now (accounts .entry); numbers = now (numbers .entry) }) (length (now (output .entry)))) (λ s. onto s (now (output .entry))) (now (output .entry)) ⌝ }
 {
-    let method = terms.method;
-    match listing::judge_list(form, method, codes, accounts, numbers) {
-        Judged::Refused(refusal) => Writing::Refused(refusal),
-        Judged::Accepted(_) => {
-            fill_other(form, numbers, others);
-            text_writing::write(forms::other(form), terms, codes, accounts, others, output)
-        }
+    match form {
+        Form::Shorts => change_shorts(terms, codes, accounts, numbers, others, output),
+        Form::LastNumbers => change_lasts(terms, codes, accounts, numbers, others, output),
     }
 }
 

@@ -7,7 +7,7 @@ use lib.ListN.{length, getD, set, take, drop, length-take}
 use lib.Seq.{take-all, drop-length, getD-take}
 use Rattle.series.specs.Sums.{listed}
 use Rattle.series.specs.Outputs.{onto}
-use Rattle.series.proofs.ListLaws.{filled, fill-none, fill-more, fill-length, listed-elements}
+use Rattle.series.proofs.ListLaws.{filled, fill-none, fill-more, fill-length, fill-rest, listed-elements}
 use Rattle.forms.specs.Forms.{differences}
 use Rattle.forms.proofs.FormLaws.{length-differences}
 
@@ -82,3 +82,18 @@ fill-whole lasts old new even is =
     ∙ ap (λ n. d ++ drop n old) long
     ∙ ap (λ xs. d ++ xs) (drop-length old)
     ∙ append-nil d
+
+-- ---- in the place of the last numbers
+
+-- position i has its last number still
+pub still-there : (lasts new : List ℕ) (before i : ℕ) → Filling lasts lasts new before i → i < length lasts → getD new i 0 ≡ getD lasts i 0
+still-there lasts new before i f l = fill-rest (shortAt lasts) lasts new i (f .done) l
+
+pub fill-over : (lasts new : List ℕ) (before i : ℕ) → Filling lasts lasts new before i → length lasts ≤ i → new ≡ differences 0 lasts
+fill-over lasts new before i f l = fill-whole lasts lasts new refl (fill-end lasts lasts new before i f l)
+
+pub fill-step : (lasts new : List ℕ) (before i v : ℕ) → Filling lasts lasts new before i → i < length new → v ≡ getD new i 0 - before → Filling lasts lasts (set new i v) (getD new i 0) (i + 1)
+fill-step lasts new before i v f l e =
+    let in-list : i < length lasts = omega (arith, fill-long lasts lasts new before i f) in
+    let there = still-there lasts new before i f in-list in
+    rw (e, there) (fill-next lasts lasts new before i f in-list in-list)

@@ -5,7 +5,7 @@ ghost use Prim.Native.Nat.{_-_};
 ghost use lib.ListN.{length, take};
 ghost use Rattle.series.specs.Answers.{numberOf};
 ghost use Rattle.series.specs.Outputs.{onto};
-ghost use Rattle.forms.specs.Forms.{differences, otherForm, numberIn};
+ghost use Rattle.forms.specs.Forms.{differences, shortsBy, otherForm, numberIn};
 
 // What a list has for each position: its shorts, or its last sequence number.
 pub enum Form {
@@ -46,6 +46,30 @@ fn difference(before: u32, number: u32) -> u32
         return 0;
     }
     number - before
+}
+
+// Puts the shorts in the place of last numbers.
+fn take_differences(numbers: &mut [u32])
+    ensures { λ _. ⌜ now (numbers .exit) ≡ differences 0 (now (numbers .entry)) ⌝ }
+{
+    let mut last = 0;
+    let mut i = 0;
+    while i < numbers.len() {
+        let number = numbers[i];
+        numbers[i] = difference(last, number);
+        last = number;
+        i += 1;
+    }
+}
+
+// Puts the shorts in the place of the numbers of a list.
+pub fn to_shorts(form: Form, numbers: &mut [u32])
+    ensures { λ _. ⌜ now (numbers .exit) ≡ shortsBy form (now (numbers .entry)) ⌝ }
+{
+    match form {
+        Form::Shorts => {}
+        Form::LastNumbers => take_differences(numbers),
+    }
 }
 
 // Fills in the shorts of last numbers, for as many positions as both lists have; elements past them are kept.

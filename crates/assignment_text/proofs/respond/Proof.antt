@@ -61,30 +61,23 @@ array-share-prefix-accounts c = fits (c .before) .1
 slice-aggregate-assign-listing-2 : tie.Need-slice-aggregate-assign-listing-2
 slice-aggregate-assign-listing-2 c = sym (length-take-le _ _ (fits (c .before .before) .1))
 
-array-share-prefix-numbers : tie.Need-array-share-prefix-numbers
-array-share-prefix-numbers c = fits (c .before .before) .2
+array-borrow-prefix-numbers : tie.Need-array-borrow-prefix-numbers
+array-borrow-prefix-numbers c = fits (c .before .before) .2
 
 slice-aggregate-assign-listing-3 : tie.Need-slice-aggregate-assign-listing-3
 slice-aggregate-assign-listing-3 c = sym (length-take-le _ _ (fits (c .before .before .before) .2))
 
-array-borrow-prefix-shorts : tie.Need-array-borrow-prefix-shorts
-array-borrow-prefix-shorts c = listing-read (c .before .before .before) .0
+array-borrow-prefix-amounts : tie.Need-array-borrow-prefix-amounts
+array-borrow-prefix-amounts c = listing-read (c .before .before .before) .0
 
 slice-aggregate-assign-listing-4 : tie.Need-slice-aggregate-assign-listing-4
 slice-aggregate-assign-listing-4 c = sym (length-take-le _ _ (listing-read (c .before .before .before .before) .0))
 
-array-borrow-prefix-amounts : tie.Need-array-borrow-prefix-amounts
-array-borrow-prefix-amounts c = listing-read (c .before .before .before .before) .0
-
-slice-aggregate-assign-listing-5 : tie.Need-slice-aggregate-assign-listing-5
-slice-aggregate-assign-listing-5 c = sym (length-take-le _ _ (listing-read (c .before .before .before .before .before) .0))
-
 assign-listing-requires : tie.Need-assign-listing-requires
-assign-listing-requires c κs = let read = c .before .before .before .before .before .before in
+assign-listing-requires c κs = let read = c .before .before .before .before .before in
     let accounts = length-take-le _ _ (fits read .1) in
     let numbers = length-take-le _ _ (fits read .2) in
-    let made = length-take-le _ _ (listing-read read .0) in
-    (record { same = accounts ∙ sym numbers; beside = made ∙ sym numbers; few = omega (arith, numbers, listing-read read .0) }, made ∙ sym numbers)
+    record { same = accounts ∙ sym numbers; beside = length-take-le _ _ (listing-read read .0) ∙ sym numbers; few = omega (arith, numbers, listing-read read .0) }
 
 same-length : tie.Need-same-length
 same-length c = search needs
@@ -97,7 +90,7 @@ same-length-2 : tie.Need-same-length-2
 same-length-2 c = search needs
 
 returns-2 : tie.Need-returns-2
-returns-2 c = let a = c .before .before .before .before .before .before .before .before .before .before .before .before .before .before .before .before .before .before .before .before .before .before .before .args in text-read (a .text .now) (c .before .before .before .before .assign-listing .result) (a .output .now) _ _ (listing-read (c .before .before .before .before .before .before .before .before .before .before .before) .1) (c .before .before .before .before .assign-listing .ensures)
+returns-2 c = let a = c .before .before .before .before .before .before .before .before .before .before .before .before .before .before .before .before .before .before .before .before .before .before .args in text-read (a .text .now) (c .before .before .before .before .assign-listing .result) (a .output .now) _ _ (listing-read (c .before .before .before .before .before .before .before .before .before .before) .1) (c .before .before .before .before .assign-listing .ensures)
 
 pub respond-spec : {M : Type 1} → statement M
 respond-spec =
@@ -114,12 +107,10 @@ respond-spec =
     slice-aggregate-assign-listing
     array-share-prefix-accounts
     slice-aggregate-assign-listing-2
-    array-share-prefix-numbers
+    array-borrow-prefix-numbers
     slice-aggregate-assign-listing-3
-    array-borrow-prefix-shorts
-    slice-aggregate-assign-listing-4
     array-borrow-prefix-amounts
-    slice-aggregate-assign-listing-5
+    slice-aggregate-assign-listing-4
     assign-listing-requires
     same-length
     returns

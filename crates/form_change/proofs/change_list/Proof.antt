@@ -1,36 +1,21 @@
--- `change_list` meets its contract: a refusal of the list stands, and what was judged is written in the other form.
-use mathlib.Core.Path.{sym, ap, _∙_}
-use lib.ListN.{length}
-use Rattle.forms.specs.Forms.{Listing}
-use Rattle.text_rules.specs.Calls.{changedInto}
-use Rattle.rising_lists.specs.Judged.{judgedOf}
-use Rattle.form_change.proofs.CallLaws.{judged-small, refused-writes, list-refused, written-other}
+-- `change_list` meets its contract.
+use Rattle.forms.specs.declared.Form.{Form}
+use Rattle.form_change.proofs.CallLaws.{in-form}
 use borrow.Author.Needs.{needs}
 use Rattle.form_change.proofs.change_list.Statement.{statement}
 use Rattle.form_change.proofs.change_list.Tie as tie
 
-judge-list-requires : tie.Need-judge-list-requires
-judge-list-requires c κs = search needs
-
-enum-known-refusal : tie.Need-enum-known-refusal
-enum-known-refusal c = search needs
-
 enum-told : tie.Need-enum-told
 enum-told c = search needs
 
-fill-other-requires : tie.Need-fill-other-requires
-fill-other-requires c κs = let s = c .before .before .before .before .before .before .before .before .before in let a = s .args in (s .pre, judged-small (a .form) (a .terms .method) (a .codes .now) (a .accounts .now) (a .numbers .now) _ (ap judgedOf (sym (c .before .enum-told .given .1)) ∙ c .before .before .before .judge-list .ensures))
+change-shorts-requires : tie.Need-change-shorts-requires
+change-shorts-requires c κs = search needs
 
-other-requires : tie.Need-other-requires
-other-requires c κs = search needs
+enum-told-2 : tie.Need-enum-told-2
+enum-told-2 c = search needs
 
-write-requires : tie.Need-write-requires
-write-requires c κs = search needs
-
-returns : tie.Need-returns
-returns c = let a = c .before .before .before .before .before .before .before .before .before .args in
-    let l : Listing = record { form = a .form; terms = a .terms; codes = a .codes .now; accounts = a .accounts .now; numbers = a .numbers .now } in
-    refused-writes _ (changedInto l (length (a .output .now))) (a .output .now) (list-refused l (length (a .output .now)) _ (ap judgedOf (sym (c .before .refusal .given .1)) ∙ c .before .before .before .judge-list .ensures))
+change-lasts-requires : tie.Need-change-lasts-requires
+change-lasts-requires c κs = search needs
 
 same-length : tie.Need-same-length
 same-length c = search needs
@@ -38,22 +23,29 @@ same-length c = search needs
 same-length-2 : tie.Need-same-length-2
 same-length-2 c = search needs
 
+returns : tie.Need-returns
+returns c = let a = c .before .before .before .before .before .before .before .before .before .before .before .before .before .before .args in in-form (a .form) Form.Shorts (a .terms) (a .codes .now) (a .accounts .now) (a .numbers .now) _ (a .output .now) _ (c .before .before .before .before .before .before .before .enum-told .given .1) (c .before .before .before .before .change-shorts .ensures)
+
+same-length-3 : tie.Need-same-length-3
+same-length-3 c = search needs
+
+same-length-4 : tie.Need-same-length-4
+same-length-4 c = search needs
+
 returns-2 : tie.Need-returns-2
-returns-2 c = let a = c .before .before .before .before .before .before .before .before .before .before .before .before .before .before .before .before .before .before .args in
-    let l : Listing = record { form = a .form; terms = a .terms; codes = a .codes .now; accounts = a .accounts .now; numbers = a .numbers .now } in
-    written-other l _ _ _ (a .output .now) _ _ (ap judgedOf (sym (c .before .before .before .before .before .before .before .before .before .before .enum-told .given .1)) ∙ c .before .before .before .before .before .before .before .before .before .before .before .before .judge-list .ensures) (c .before .before .before .before .before .other .ensures) (c .before .before .before .before .before .before .before .before .fill-other .ensures) (c .before .before .write .ensures)
+returns-2 c = let a = c .before .before .before .before .before .before .before .before .before .before .before .before .before .before .args in in-form (a .form) Form.LastNumbers (a .terms) (a .codes .now) (a .accounts .now) (a .numbers .now) _ (a .output .now) _ (c .before .before .before .before .before .before .before .enum-told2 .given .1) (c .before .before .before .before .change-lasts .ensures)
 
 pub change-list-spec : {M : Type 1} → statement M
 change-list-spec =
     tie.close
     (tie.spec
-    judge-list-requires
-    enum-known-refusal
     enum-told
-    fill-other-requires
-    other-requires
-    write-requires
-    returns
+    change-shorts-requires
+    enum-told-2
+    change-lasts-requires
     same-length
     same-length-2
+    returns
+    same-length-3
+    same-length-4
     returns-2)

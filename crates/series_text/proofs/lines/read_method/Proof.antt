@@ -7,23 +7,18 @@ use Rattle.series_text.proofs.LineLaws.{method-other, method-one}
 use Rattle.series_text.proofs.lines.read_method.Statement.{statement}
 use Rattle.series_text.proofs.lines.read_method.Tie as tie
 
--- src/lines.rt:54:17
 sub-bytes : tie.Need-sub-bytes
 sub-bytes c = search needs
 
--- src/lines.rt:56:9
 returns : tie.Need-returns
 returns c = let a = c .before .before .args in sym (method-other (slice (a .from) (a .to) (a .text .now)) (λ e. c .if1 .taken (sym (length-slice (a .from) (a .to) (a .text .now) (omega arith)) ∙ e)))
 
--- src/lines.rt:58:15
 shared-slice-read-method-by : tie.Need-shared-slice-read-method-by
 shared-slice-read-method-by c = search needs
 
--- src/lines.rt:58:5
 method-by-requires : tie.Need-method-by-requires
 method-by-requires c κs = search needs
 
--- src/lines.rt:50:1
 returns-2 : tie.Need-returns-2
 returns-2 c = let a = c .before .before .before .before .args in c .method-by .ensures ∙ sym (method-one (a .from) (a .to) (a .text .now) (omega arith) (omega arith))
 
