@@ -8,7 +8,7 @@ use Rattle.series.specs.Sums.{listed}
 use Rattle.series.specs.Places.{total, before, last}
 use Rattle.series.specs.RemainderDraw.{firstRange, secondRange}
 use Rattle.assignment_text.specs.Printed.{rangeColumns}
-use Rattle.series.proofs.ListLaws.{filled, fill-none, fill-more, fill-length, fill-all}
+use Rattle.series.proofs.ListLaws.{filled, fill-none, fill-more, fill-length, fill-rest, fill-all}
 use Rattle.series.proofs.SumLaws.{length-listed, getD-listed, listed-cong}
 use Rattle.series.proofs.RangeLaws.{ranges-within}
 use Rattle.series.proofs.PlaceLaws.{before-zero, before-suc, before-all}
@@ -20,49 +20,53 @@ firstOf hs i = firstRange hs i .first
 abbrev pub lastOf : List ℕ → ℕ → ℕ
 lastOf hs i = firstRange hs i .last
 
--- the first i positions are filled in, and so many contracts are passed
-pub record Filling (hs firsts₀ lasts₀ firsts lasts : List ℕ) (passed i : ℕ) : Type 0 where
+-- the ranges of the first i positions are filled in, and so many contracts are passed
+pub record Filling (hs firsts₀ firsts lasts : List ℕ) (passed i : ℕ) : Type 0 where
   pub up : i ≤ length hs
   pub sum : passed ≡ before hs i
   pub first-numbers : firsts ≡ filled (firstOf hs) i firsts₀
-  pub last-numbers : lasts ≡ filled (lastOf hs) i lasts₀
+  pub last-numbers : lasts ≡ filled (lastOf hs) i hs
 
-pub fill-start : (hs firsts lasts : List ℕ) → Filling hs firsts lasts firsts lasts 0 0
-fill-start hs firsts lasts = record { up = omega arith; sum = sym (before-zero hs); first-numbers = fill-none (firstOf hs) firsts; last-numbers = fill-none (lastOf hs) lasts }
+pub fill-start : (hs firsts : List ℕ) → Filling hs firsts firsts hs 0 0
+fill-start hs firsts = record { up = omega arith; sum = sym (before-zero hs); first-numbers = fill-none (firstOf hs) firsts; last-numbers = fill-none (lastOf hs) hs }
 
-module _ (hs firsts₀ lasts₀ firsts lasts : List ℕ) (passed i : ℕ) (lf : length firsts₀ ≡ length hs) (ll : length lasts₀ ≡ length hs) (f : Filling hs firsts₀ lasts₀ firsts lasts passed i) where
+module _ (hs firsts₀ firsts lasts : List ℕ) (passed i : ℕ) (lf : length firsts₀ ≡ length hs) (f : Filling hs firsts₀ firsts lasts passed i) where
   pub firsts-long : length firsts ≡ length firsts₀
   firsts-long = fill-length (firstOf hs) firsts₀ firsts i (f .first-numbers) (omega (arith, f .up))
 
-  pub lasts-long : length lasts ≡ length lasts₀
-  lasts-long = fill-length (lastOf hs) lasts₀ lasts i (f .last-numbers) (omega (arith, f .up))
+  pub lasts-long : length lasts ≡ length hs
+  lasts-long = fill-length (lastOf hs) hs lasts i (f .last-numbers) (f .up)
 
-  module _ (lt : i < length hs) where
-    sum-next : passed + getD hs i 0 ≡ last hs i
+  module _ (lt : i < length lasts) where
+    in-list : i < length hs
+    in-list = omega (arith, lasts-long)
+
+    -- position i has its shorts still
+    sum-next : passed + getD lasts i 0 ≡ last hs i
     unfolding last
-    sum-next = omega (arith, f .sum)
+    sum-next = omega (arith, f .sum, fill-rest (lastOf hs) hs lasts i (f .last-numbers) in-list)
 
     -- no number passes T by more than one
-    pub fill-fits : (passed + getD hs i 0 ≤ total hs) × (passed ≤ total hs)
+    pub fill-fits : (passed + getD lasts i 0 ≤ total hs) × (passed ≤ total hs)
     unfolding firstRange
-    fill-fits = let within = ranges-within hs i lt in (omega (arith, sum-next, within .1), omega (arith, f .sum, within .0))
+    fill-fits = let within = ranges-within hs i in-list in (omega (arith, sum-next, within .1), omega (arith, f .sum, within .0))
 
-    pub fill-next : Filling hs firsts₀ lasts₀ (set firsts i (passed + 1)) (set lasts i (passed + getD hs i 0)) (passed + getD hs i 0) (i + 1)
+    pub fill-next : Filling hs firsts₀ (set firsts i (passed + 1)) (set lasts i (passed + getD lasts i 0)) (passed + getD lasts i 0) (i + 1)
     unfolding firstRange
     fill-next =
         record {
-          up = omega arith;
-          sum = sum-next ∙ sym (before-suc hs i lt) ∙ ap (before hs) (omega arith);
-          first-numbers = fill-more (firstOf hs) firsts₀ firsts i (passed + 1) (f .first-numbers) (omega arith) (omega (arith, f .sum));
-          last-numbers = fill-more (lastOf hs) lasts₀ lasts i (passed + getD hs i 0) (f .last-numbers) (omega arith) sum-next;
+          up = omega (arith, in-list);
+          sum = sum-next ∙ sym (before-suc hs i in-list) ∙ ap (before hs) (omega arith);
+          first-numbers = fill-more (firstOf hs) firsts₀ firsts i (passed + 1) (f .first-numbers) (omega (arith, in-list)) (omega (arith, f .sum));
+          last-numbers = fill-more (lastOf hs) hs lasts i (passed + getD lasts i 0) (f .last-numbers) in-list sum-next;
         }
 
-  pub fill-end : length hs ≤ i → (passed ≡ total hs) × (firsts ≡ listed (firstOf hs) (length hs)) × (lasts ≡ listed (lastOf hs) (length hs))
+  pub fill-end : length lasts ≤ i → (passed ≡ total hs) × (firsts ≡ listed (firstOf hs) (length hs)) × (lasts ≡ listed (lastOf hs) (length hs))
   fill-end past =
-      let end : i ≡ length hs = omega (arith, f .up) in (
+      let end : i ≡ length hs = omega (arith, f .up, lasts-long) in (
         f .sum ∙ ap (before hs) end ∙ before-all hs,
         f .first-numbers ∙ fill-all (firstOf hs) firsts₀ i (omega arith) ∙ ap (listed (firstOf hs)) end,
-        f .last-numbers ∙ fill-all (lastOf hs) lasts₀ i (omega arith) ∙ ap (listed (lastOf hs)) end,
+        f .last-numbers ∙ fill-all (lastOf hs) hs i (omega arith) ∙ ap (listed (lastOf hs)) end,
       )
 
 -- ---- the second ranges

@@ -13,10 +13,9 @@ pub record Lists (accounts shorts amounts : List ℕ) : Type 0 where
   pub beside : length amounts ≡ length shorts
   pub few : length shorts ≤ MOST_LINES
 
--- a number of each of the four columns of the ranges for every position, and at most 10,000,000 contracts
-pub record RangeLists (shorts firsts lasts firsts2 lasts2 : List ℕ) : Type 0 where
+-- a number of each of the three columns of the ranges that lists are lent for, and at most 10,000,000 contracts; the last numbers take the place of the shorts
+pub record RangeLists (shorts firsts firsts2 lasts2 : List ℕ) : Type 0 where
   pub first-numbers : length firsts ≡ length shorts
-  pub last-numbers : length lasts ≡ length shorts
   pub first2-numbers : length firsts2 ≡ length shorts
   pub last2-numbers : length lasts2 ≡ length shorts
   pub small : total shorts ≤ MOST_CONTRACTS

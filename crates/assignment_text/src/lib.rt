@@ -67,28 +67,27 @@ fn print(accounts: &[u32], amounts: &[u32], output: &mut [u8]) -> Response
     answer_written(writing)
 }
 
-// Prints the amounts of an allocation and the ranges, which are made in lent lists.
+// Prints the amounts of an allocation and the ranges, which are made in the shorts and in lent lists.
 fn print_ranges(
     accounts: &[u32],
-    shorts: &[u32],
+    numbers: &mut [u32],
     amounts: &[u32],
     firsts: &mut [u32],
-    lasts: &mut [u32],
     firsts2: &mut [u32],
     lasts2: &mut [u32],
     output: &mut [u8],
 ) -> Response
-    requires { ⌜ Lists (now accounts) (now shorts) (now amounts) × RangeLists (now shorts) (now firsts) (now lasts) (now firsts2) (now lasts2) ⌝ }
-    ensures { λ r. ⌜ Responds r (assignedLines (now (accounts .entry)) (now (amounts .entry)) ++ rangeLines (now (accounts .entry)) (now (shorts .entry))) 0 (now (output .entry)) (now (output .exit)) ⌝ }
+    requires { ⌜ Lists (now accounts) (now numbers) (now amounts) × RangeLists (now numbers) (now firsts) (now firsts2) (now lasts2) ⌝ }
+    ensures { λ r. ⌜ Responds r (assignedLines (now (accounts .entry)) (now (amounts .entry)) ++ rangeLines (now (accounts .entry)) (now (numbers .entry))) 0 (now (output .entry)) (now (output .exit)) ⌝ }
 {
-    ranges::fill(shorts, firsts, lasts, firsts2, lasts2);
+    ranges::fill(numbers, firsts, firsts2, lasts2);
     let writing = text_writing::write_tables(
         &ASSIGNED_NAMES,
         accounts,
         amounts,
         &RANGE_NAMES,
         firsts,
-        lasts,
+        numbers,
         firsts2,
         lasts2,
         output,
@@ -96,67 +95,66 @@ fn print_ranges(
     answer_written(writing)
 }
 
-// Prints the amounts of an allocation and the ranges, made in lists of its own.
+// Prints the amounts of an allocation and the ranges, made in the shorts, in a lent list and in lists of its own.
 fn print_with_ranges(
     accounts: &[u32],
-    shorts: &[u32],
+    shorts: &mut [u32],
     amounts: &[u32],
+    firsts: &mut [u32],
     output: &mut [u8],
 ) -> Response
-    requires { ⌜ Lists (now accounts) (now shorts) (now amounts) × (totalOf (now shorts) ≤ MOST_CONTRACTS) ⌝ }
+    requires { ⌜ Lists (now accounts) (now shorts) (now amounts) × (length (now firsts) ≡ length (now shorts)) × (totalOf (now shorts) ≤ MOST_CONTRACTS) ⌝ }
     ensures { λ r. ⌜ Responds r (assignedLines (now (accounts .entry)) (now (amounts .entry)) ++ rangeLines (now (accounts .entry)) (now (shorts .entry))) 0 (now (output .entry)) (now (output .exit)) ⌝ }
 {
     let n = shorts.len();
-    let mut firsts = [0u32; 1024];
-    let mut lasts = [0u32; 1024];
     let mut firsts2 = [0u32; 1024];
     let mut lasts2 = [0u32; 1024];
     print_ranges(
         accounts,
         shorts,
         amounts,
-        &mut firsts[..n],
-        &mut lasts[..n],
+        firsts,
         &mut firsts2[..n],
         &mut lasts2[..n],
         output,
     )
 }
 
-// Prints an allocation by the method: its amounts, and under R the ranges after them.
+// Prints an allocation by the method: its amounts, and under R the ranges after them, for which the shorts and a list are lent.
 fn print_by(
     method: Method,
     accounts: &[u32],
-    shorts: &[u32],
+    shorts: &mut [u32],
     amounts: &[u32],
+    firsts: &mut [u32],
     output: &mut [u8],
 ) -> Response
-    requires { ⌜ Lists (now accounts) (now shorts) (now amounts) × (totalOf (now shorts) ≤ MOST_CONTRACTS) ⌝ }
+    requires { ⌜ Lists (now accounts) (now shorts) (now amounts) × (length (now firsts) ≡ length (now shorts)) × (totalOf (now shorts) ≤ MOST_CONTRACTS) ⌝ }
     ensures { λ r. ⌜ Responds r (assignedLines (now (accounts .entry)) (now (amounts .entry)) ++ rangesBy method (now (accounts .entry)) (now (shorts .entry))) 0 (now (output .entry)) (now (output .exit)) ⌝ }
 {
     match method {
-        Method::RemainderDraw => print_with_ranges(accounts, shorts, amounts, output),
+        Method::RemainderDraw => print_with_ranges(accounts, shorts, amounts, firsts, output),
         _ => print(accounts, amounts, output),
     }
 }
 
-// Assigns a series of at most 1,024 positions that was listed in a form, and prints the amounts or the refusal.
+// Assigns a series of at most 1,024 positions that was listed in a form, and prints the amounts or the refusal. The codes and the shorts are lent to the printing.
 fn assign(
     form: Form,
     terms: Terms,
-    codes: &[u32],
+    codes: &mut [u32],
     accounts: &[u32],
-    shorts: &[u32],
+    shorts: &mut [u32],
     amounts: &mut [u32],
     output: &mut [u8],
 ) -> Response
-    requires { ⌜ Lists (now accounts) (now shorts) (now amounts) ⌝ }
+    requires { ⌜ Lists (now accounts) (now shorts) (now amounts) × (length (now codes) ≡ length (now shorts)) ⌝ }
     ensures { λ r. ⌜ Responds r (linesFor (seriesOrRefusal form (record { terms = terms; codes = now (codes .entry); accounts = now (accounts .entry); shorts = now (shorts .entry) }))) (status (seriesOrRefusal form (record { terms = terms; codes = now (codes .entry); accounts = now (accounts .entry); shorts = now (shorts .entry) }))) (now (output .entry)) (now (output .exit)) ⌝ }
 {
     let answer = allocation::allocate(terms, codes, accounts, shorts, amounts);
     let Answer::Refused(refusal) = answer else {
         let method = terms.method;
-        return print_by(method, accounts, shorts, amounts, output);
+        return print_by(method, accounts, shorts, amounts, codes, output);
     };
     refuse(forms::refusal_in(form, refusal), output)
 }
@@ -165,13 +163,13 @@ fn assign(
 fn assign_listing(
     form: Form,
     terms: Terms,
-    codes: &[u32],
+    codes: &mut [u32],
     accounts: &[u32],
     numbers: &mut [u32],
     amounts: &mut [u32],
     output: &mut [u8],
 ) -> Response
-    requires { ⌜ Lists (now accounts) (now numbers) (now amounts) ⌝ }
+    requires { ⌜ Lists (now accounts) (now numbers) (now amounts) × (length (now codes) ≡ length (now numbers)) ⌝ }
     ensures { λ r. ⌜ Responds r (linesFor (seriesOrRefusal form (record { terms = terms; codes = now (codes .entry); accounts = now (accounts .entry); shorts = shortsBy form (now (numbers .entry)) }))) (status (seriesOrRefusal form (record { terms = terms; codes = now (codes .entry); accounts = now (accounts .entry); shorts = shortsBy form (now (numbers .entry)) }))) (now (output .entry)) (now (output .exit)) ⌝ }
 {
     forms::to_shorts(form, numbers);
@@ -195,7 +193,7 @@ pub fn respond(text: &[u8], output: &mut [u8]) -> Response
         } => assign_listing(
             form,
             terms,
-            &codes[..positions],
+            &mut codes[..positions],
             &accounts[..positions],
             &mut numbers[..positions],
             &mut amounts[..positions],

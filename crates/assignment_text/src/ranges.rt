@@ -1,4 +1,4 @@
-// The ranges of a list's positions, in lent lists.
+// The ranges of a list's positions, in lent lists; the last numbers take the place of the shorts.
 use series::Contracts;
 ghost use mathlib.Core.Path.{_≡_};
 ghost use Prim.Native.Nat.{ℕ, _+_, _≤_, _<_};
@@ -11,19 +11,19 @@ ghost use Rattle.series.specs.RemainderDraw.{firstRange};
 ghost use Rattle.assignment_text.specs.Printed.{rangeColumns};
 ghost use Rattle.assignment_text.specs.Lists.{RangeLists};
 
-// Fills in the first range of each position, and hands back T.
-fn fill_first(shorts: &[u32], firsts: &mut [u32], lasts: &mut [u32]) -> Contracts
-    requires { ⌜ (length (now firsts) ≡ length (now shorts)) × (length (now lasts) ≡ length (now shorts)) × (totalOf (now shorts) ≤ MOST_CONTRACTS) ⌝ }
-    ensures { λ r. ⌜ r .0 ≡ totalOf (now (shorts .entry)) ⌝ }
-    ensures { λ _. ⌜ now (firsts .exit) ≡ listed (λ i. firstRange (now (shorts .entry)) i .first) (length (now (shorts .entry))) ⌝ }
-    ensures { λ _. ⌜ now (lasts .exit) ≡ listed (λ i. firstRange (now (shorts .entry)) i .last) (length (now (shorts .entry))) ⌝ }
+// Fills in the first number of each position's first range, puts the last one in the place of its shorts, and hands back T.
+fn fill_first(numbers: &mut [u32], firsts: &mut [u32]) -> Contracts
+    requires { ⌜ (length (now firsts) ≡ length (now numbers)) × (totalOf (now numbers) ≤ MOST_CONTRACTS) ⌝ }
+    ensures { λ r. ⌜ r .0 ≡ totalOf (now (numbers .entry)) ⌝ }
+    ensures { λ _. ⌜ now (firsts .exit) ≡ listed (λ i. firstRange (now (numbers .entry)) i .first) (length (now (numbers .entry))) ⌝ }
+    ensures { λ _. ⌜ now (numbers .exit) ≡ listed (λ i. firstRange (now (numbers .entry)) i .last) (length (now (numbers .entry))) ⌝ }
 {
     let mut passed = 0;
     let mut i = 0;
-    while i < shorts.len() {
+    while i < numbers.len() {
         firsts[i] = passed + 1;
-        passed += shorts[i];
-        lasts[i] = passed;
+        passed += numbers[i];
+        numbers[i] = passed;
         i += 1;
     }
     Contracts(passed)
@@ -43,16 +43,15 @@ fn fill_second(numbers: &[u32], total: Contracts, raised: &mut [u32])
 
 // Fills in both ranges of each position: with the accounts they are the columns that are printed.
 pub fn fill(
-    shorts: &[u32],
+    numbers: &mut [u32],
     firsts: &mut [u32],
-    lasts: &mut [u32],
     firsts2: &mut [u32],
     lasts2: &mut [u32],
 )
-    requires { ⌜ RangeLists (now shorts) (now firsts) (now lasts) (now firsts2) (now lasts2) ⌝ }
-    ensures { λ _. ⌜ ((accounts : List ℕ) → accounts ∷ now (firsts .exit) ∷ now (lasts .exit) ∷ now (firsts2 .exit) ∷ now (lasts2 .exit) ∷ [] ≡ rangeColumns accounts (now (shorts .entry))) ⌝ }
+    requires { ⌜ RangeLists (now numbers) (now firsts) (now firsts2) (now lasts2) ⌝ }
+    ensures { λ _. ⌜ ((accounts : List ℕ) → accounts ∷ now (firsts .exit) ∷ now (numbers .exit) ∷ now (firsts2 .exit) ∷ now (lasts2 .exit) ∷ [] ≡ rangeColumns accounts (now (numbers .entry))) ⌝ }
 {
-    let total = fill_first(shorts, firsts, lasts);
+    let total = fill_first(numbers, firsts);
     fill_second(firsts, total, firsts2);
-    fill_second(lasts, total, lasts2);
+    fill_second(numbers, total, lasts2);
 }

@@ -19,10 +19,13 @@ same-length-2 c = search needs
 same-length-3 : tie.Need-same-length-3
 same-length-3 c = search needs
 
+same-length-4 : tie.Need-same-length-4
+same-length-4 c = search needs
+
 returns : tie.Need-returns
-returns c = let a = c .before .before .before .before .before .before .before .before .before .before .before .before .before .before .before .before .before .args in shorts-as (a .form) (a .terms) (a .codes .now) (a .accounts .now) _ _ (c .before .before .before .before .assign .result) (a .output .now) _ (c .before .before .before .before .before .before .before .before .before .before .to-shorts .ensures) (c .before .before .before .before .assign .ensures)
+returns c = let a = c .before .before .before .before .before .before .before .before .before .before .before .before .before .before .before .before .before .before .before .before .before .before .args in shorts-as (a .form) (a .terms) (a .codes .now) (a .accounts .now) _ _ (c .before .before .before .before .before .before .before .before .assign .result) (a .output .now) _ (c .before .before .before .before .before .before .before .before .before .before .before .before .before .before .before .to-shorts .ensures) (c .before .before .before .before .before .before .before .before .assign .ensures)
 
 pub assign-listing-spec : {M : Type 1} → statement M
 assign-listing-spec =
     tie.close
-    (tie.spec to-shorts-requires assign-requires same-length same-length-2 same-length-3 returns)
+    (tie.spec to-shorts-requires assign-requires same-length same-length-2 same-length-3 same-length-4 returns)

@@ -45,11 +45,11 @@ same-length-5 c = search needs
 
 returns : tie.Need-returns
 unfolding ascii
-returns c = let s = c .before .before .before .before .before .before .before .before .before .before .before .before .before .before .before .before .before .before .before .before .before .before .before .before .before .before .before .before .before .before .before .before in
+returns c = let s = c .before .before .before .before .before .before .before .before .before .before .before .before .before .before .before .before .before .before .before .before .before .before .before .before .before .before .before .before .before .before .before in
     let a = s .args in
     let written = c .before .before .before .write-tables .ensures in
-    let same = ap (λ cs. tablesInto (ascii "account,assigned\n") (a .accounts .now ∷ a .amounts .now ∷ []) (ascii "account,first,last,first2,last2\n") cs (length (a .output .now))) (c .before .before .before .before .before .before .before .before .before .before .before .before .before .before .before .before .before .before .before .fill .ensures (a .accounts .now)) ∙ tables-are (a .accounts .now) (a .shorts .now) (a .amounts .now) (length (a .output .now)) (s .pre .0) in
-    allocation-printed (assignedLines (a .accounts .now) (a .amounts .now) ++ rangeLines (a .accounts .now) (a .shorts .now)) (a .output .now) _ _ (c .answer-written .result) (c .answer-written .ensures) (written .0 ∙ ap lengthOf same) (written .1 ∙ ap (λ w. after w (λ t. onto t (a .output .now)) (a .output .now)) same)
+    let same = ap (λ cs. tablesInto (ascii "account,assigned\n") (a .accounts .now ∷ a .amounts .now ∷ []) (ascii "account,first,last,first2,last2\n") cs (length (a .output .now))) (c .before .before .before .before .before .before .before .before .before .before .before .before .before .before .before .before .before .before .before .fill .ensures (a .accounts .now)) ∙ tables-are (a .accounts .now) (a .numbers .now) (a .amounts .now) (length (a .output .now)) (s .pre .0) in
+    allocation-printed (assignedLines (a .accounts .now) (a .amounts .now) ++ rangeLines (a .accounts .now) (a .numbers .now)) (a .output .now) _ _ (c .answer-written .result) (c .answer-written .ensures) (written .0 ∙ ap lengthOf same) (written .1 ∙ ap (λ w. after w (λ t. onto t (a .output .now)) (a .output .now)) same)
 
 pub print-ranges-spec : {M : Type 1} → statement M
 print-ranges-spec =

@@ -49,8 +49,8 @@ refuse-requires c κs = search needs
 enum-known-form : tie.Need-enum-known-form
 enum-known-form c = search needs
 
-array-share-prefix-codes : tie.Need-array-share-prefix-codes
-array-share-prefix-codes c = fits c .0
+array-borrow-prefix-codes : tie.Need-array-borrow-prefix-codes
+array-borrow-prefix-codes c = fits c .0
 
 slice-aggregate-assign-listing : tie.Need-slice-aggregate-assign-listing
 slice-aggregate-assign-listing c = sym (length-take-le _ _ (fits (c .before) .0))
@@ -77,7 +77,7 @@ assign-listing-requires : tie.Need-assign-listing-requires
 assign-listing-requires c κs = let read = c .before .before .before .before .before in
     let accounts = length-take-le _ _ (fits read .1) in
     let numbers = length-take-le _ _ (fits read .2) in
-    record { same = accounts ∙ sym numbers; beside = length-take-le _ _ (listing-read read .0) ∙ sym numbers; few = omega (arith, numbers, listing-read read .0) }
+    (record { same = accounts ∙ sym numbers; beside = length-take-le _ _ (listing-read read .0) ∙ sym numbers; few = omega (arith, numbers, listing-read read .0) }, length-take-le _ _ (fits read .0) ∙ sym numbers)
 
 same-length : tie.Need-same-length
 same-length c = search needs
@@ -90,7 +90,7 @@ same-length-2 : tie.Need-same-length-2
 same-length-2 c = search needs
 
 returns-2 : tie.Need-returns-2
-returns-2 c = let a = c .before .before .before .before .before .before .before .before .before .before .before .before .before .before .before .before .before .before .before .before .before .before .args in text-read (a .text .now) (c .before .before .before .before .assign-listing .result) (a .output .now) _ _ (listing-read (c .before .before .before .before .before .before .before .before .before .before) .1) (c .before .before .before .before .assign-listing .ensures)
+returns-2 c = let a = c .before .before .before .before .before .before .before .before .before .before .before .before .before .before .before .before .before .before .before .before .before .before .before .args in text-read (a .text .now) (c .before .before .before .before .before .assign-listing .result) (a .output .now) _ _ (listing-read (c .before .before .before .before .before .before .before .before .before .before .before) .1) (c .before .before .before .before .before .assign-listing .ensures)
 
 pub respond-spec : {M : Type 1} → statement M
 respond-spec =
@@ -103,7 +103,7 @@ respond-spec =
     enum-known-refusal
     refuse-requires
     enum-known-form
-    array-share-prefix-codes
+    array-borrow-prefix-codes
     slice-aggregate-assign-listing
     array-share-prefix-accounts
     slice-aggregate-assign-listing-2

@@ -12,14 +12,14 @@ fill-first-requires : tie.Need-fill-first-requires
 fill-first-requires c κs = search needs
 
 fill-second-requires : tie.Need-fill-second-requires
-fill-second-requires c κs = let s = c .before .before .before .before .before .before .before .before .before .before .before .before .before .before in
-    let hs = s .args .shorts .now in
+fill-second-requires c κs = let s = c .before .before .before .before .before .before .before .before .before .before .before .before .before in
+    let hs = s .args .numbers .now in
     let first = c .before .before .before .before .before .before .fill-first .ensures in
     (omega (arith, s .pre .first2-numbers, ap length (first .1 .0), length-listed (firstOf hs) (length hs)), omega (arith, first .0, s .pre .small), firsts-near hs _ _ (first .0) (first .1 .0))
 
 fill-second-requires-2 : tie.Need-fill-second-requires-2
-fill-second-requires-2 c κs = let s = c .before .before .before .before .before .before .before .before .before .before .before .before .before .before .before .before .before .before .before in
-    let hs = s .args .shorts .now in
+fill-second-requires-2 c κs = let s = c .before .before .before .before .before .before .before .before .before .before .before .before .before .before .before .before .before .before in
+    let hs = s .args .numbers .now in
     let first = c .before .before .before .before .before .before .before .before .before .before .before .fill-first .ensures in
     (omega (arith, s .pre .last2-numbers, ap length (first .1 .1), length-listed (lastOf hs) (length hs)), omega (arith, first .0, s .pre .small), lasts-near hs _ _ (first .0) (first .1 .1))
 
@@ -36,7 +36,7 @@ same-length-4 : tie.Need-same-length-4
 same-length-4 c = search needs
 
 returns : tie.Need-returns
-returns c = let hs = c .before .before .before .before .before .before .before .before .before .before .before .before .before .before .before .before .before .before .before .before .before .before .args .shorts .now in
+returns c = let hs = c .before .before .before .before .before .before .before .before .before .before .before .before .before .before .before .before .before .before .before .before .before .args .numbers .now in
     let first = c .before .before .before .before .before .before .before .before .before .before .before .before .before .before .fill-first .ensures in
     λ accounts. columns-are hs _ _ _ _ accounts (first .1 .0) (first .1 .1) (c .before .before .before .before .before .before .before .fill-second .ensures ∙ firsts-raised hs _ _ (first .0) (first .1 .0)) (c .before .before .fill-second2 .ensures ∙ lasts-raised hs _ _ (first .0) (first .1 .1))
 
