@@ -42,12 +42,7 @@ fn fill_second(numbers: &[u32], total: Contracts, raised: &mut [u32])
 }
 
 // Fills in both ranges of each position: with the accounts they are the columns that are printed.
-pub fn fill(
-    numbers: &mut [u32],
-    firsts: &mut [u32],
-    firsts2: &mut [u32],
-    lasts2: &mut [u32],
-)
+pub fn fill(numbers: &mut [u32], firsts: &mut [u32], firsts2: &mut [u32], lasts2: &mut [u32])
     requires { ⌜ RangeLists (now numbers) (now firsts) (now firsts2) (now lasts2) ⌝ }
     ensures { λ _. ⌜ ((accounts : List ℕ) → accounts ∷ now (firsts .exit) ∷ now (numbers .exit) ∷ now (firsts2 .exit) ∷ now (lasts2 .exit) ∷ [] ≡ rangeColumns accounts (now (numbers .entry))) ⌝ }
 {

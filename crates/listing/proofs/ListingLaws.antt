@@ -1,13 +1,12 @@
 -- The verdict, the answer and the output of a listing, from those of its series.
-use Prim.Native.Nat.{ℕ, _≤_, _<_}
+use Prim.Native.Nat.{ℕ, _<_}
 use mathlib.Core.Path.{_≡_, refl, sym, ap, subst, _∙_}
-use mathlib.Core.List.{List, [], _∷_, _++_}
+use mathlib.Core.List.{List, [], _∷_}
 use mathlib.Core.Logic.{⊎-elim}
 use denote.Enum.Declared.{tagOf}
 use types.Run.{OneOf}
 use native.Mathlib.Omega.{arith}
-use lib.ListN.{length, take, drop, replicate, length-take}
-use lib.Seq.{length-take-le, take-at}
+use lib.ListN.{length}
 use Rattle.series.specs.Results.{Result, refused, value, _>>=_, after}
 use Rattle.series.specs.Outputs.{onto}
 use Rattle.series.specs.Series.{Series, MOST_POSITIONS, method}
@@ -19,31 +18,9 @@ use Rattle.series.specs.declared.Answer.{Answer}
 use Rattle.series.specs.declared.Method.{Method}
 use Rattle.series.specs.declared.Terms.{Terms}
 use Rattle.series.proofs.Answer.{the-type}
-use Rattle.forms.specs.Forms.{differences, shortsBy, numberIn, inForm, listVerdictIn, ListingCall}
+use Rattle.forms.specs.Forms.{differences, inForm, listVerdictIn, ListingCall}
 use Rattle.forms.specs.declared.Form.{Form}
-use Rattle.forms.proofs.FormLaws.{length-differences}
-use Rattle.forms.proofs.FillLaws.{fill-whole}
 use Rattle.forms.proofs.LastRows.{long-call}
-
--- the list in which shorts are filled in, at first
-abbrev zeros : List ℕ
-zeros = replicate 4096 0
-
--- new is what the part of it for these last numbers then holds
-abbrev FilledIn : List ℕ → List ℕ → Type 0
-FilledIn lasts new = new ≡ onto (take (length (take (length lasts) zeros)) (differences 0 lasts)) (take (length lasts) zeros)
-
--- the shorts stand first in it
-pub shorts-first : (lasts new : List ℕ) → length lasts ≤ MOST_POSITIONS → FilledIn lasts new → take (length lasts) (new ++ drop (length lasts) zeros) ≡ differences 0 lasts
-shorts-first lasts new few is =
-    let whole = fill-whole lasts (take (length lasts) zeros) new (length-take-le (length lasts) zeros few) is in
-    take-at new (drop (length lasts) zeros) (length lasts) (ap length whole ∙ length-differences 0 lasts) ∙ whole
-
-pub shorts-long : (lasts new : List ℕ) → length lasts ≤ MOST_POSITIONS → FilledIn lasts new → length lasts ≡ length (take (length lasts) (new ++ drop (length lasts) zeros))
-shorts-long lasts new few is = sym (ap length (shorts-first lasts new few is) ∙ length-differences 0 lasts)
-
-pub shorts-within : (lasts new : List ℕ) → length lasts ≤ MOST_POSITIONS → FilledIn lasts new → length lasts ≤ length (new ++ drop (length lasts) zeros)
-shorts-within lasts new few is = omega (arith, shorts-long lasts new few is, length-take (length lasts) (new ++ drop (length lasts) zeros))
 
 -- in a form: shorts as they are, and the verdict on the shorts of last numbers
 pub in-shorts : {A : Type 0} (r : Result A) → inForm Form.Shorts r ≡ r

@@ -5,6 +5,7 @@ use series::Answer;
 use series::Method;
 use series::Terms;
 ghost use mathlib.Core.Path.{_≡_};
+ghost use lib.ListN.{length};
 ghost use Rattle.series.specs.Answers.{answerOf};
 ghost use Rattle.forms.specs.Forms.{inForm, listVerdictIn, ListingCall};
 ghost use Rattle.forms.specs.declared.Form.{Form as Form·};
@@ -20,7 +21,23 @@ fn judged_in(form: Form, judged: Judged) -> Judged
     }
 }
 
-// Judges a list of last numbers by its shorts. One that is too long is refused for its length alone.
+// Judges a list of last numbers by its shorts, which are made in a lent list.
+fn judge_by_shorts(
+    method: Method,
+    codes: &[u32],
+    accounts: &[u32],
+    lasts: &[u32],
+    shorts: &mut [u32],
+) -> Judged
+    requires { ⌜ length (now shorts) ≡ length (now lasts) ⌝ }
+    ensures { λ r. ⌜ judgedOf r ≡ listVerdictIn Form·.LastNumbers method (now (codes .entry)) (now (accounts .entry)) (now (lasts .entry)) ⌝ }
+{
+    forms::fill_shorts(lasts, shorts);
+    let judged = list_judging::judge_list(method, codes, accounts, shorts);
+    judged_in(Form::LastNumbers, judged)
+}
+
+// Judges a list of last numbers. One that is too long is refused for its length alone.
 fn judge_lasts(method: Method, codes: &[u32], accounts: &[u32], lasts: &[u32]) -> Judged
     ensures { λ r. ⌜ judgedOf r ≡ listVerdictIn Form·.LastNumbers method (now (codes .entry)) (now (accounts .entry)) (now (lasts .entry)) ⌝ }
 {
@@ -29,9 +46,7 @@ fn judge_lasts(method: Method, codes: &[u32], accounts: &[u32], lasts: &[u32]) -
         return list_judging::judge_list(method, codes, accounts, lasts);
     }
     let mut shorts = [0u32; 4096];
-    forms::fill_shorts(lasts, &mut shorts[..n]);
-    let judged = list_judging::judge_list(method, codes, accounts, &shorts[..n]);
-    judged_in(Form::LastNumbers, judged)
+    judge_by_shorts(method, codes, accounts, lasts, &mut shorts[..n])
 }
 
 // Judges a list alone, with no output, S or draw.
@@ -60,7 +75,24 @@ fn answer_in(form: Form, answer: Answer) -> Answer
     Answer::Refused(forms::refusal_in(form, refusal))
 }
 
-// The allocating call on a list of last numbers. One that is too long is refused for its length alone.
+// The allocating call on a list of last numbers, whose shorts are made in a lent list.
+fn allocate_by_shorts(
+    terms: Terms,
+    codes: &[u32],
+    accounts: &[u32],
+    lasts: &[u32],
+    shorts: &mut [u32],
+    amounts: &mut [u32],
+) -> Answer
+    requires { ⌜ length (now shorts) ≡ length (now lasts) ⌝ }
+    ensures { λ r. ⌜ ListingCall (record { form = Form·.LastNumbers; terms = terms; codes = now (codes .entry); accounts = now (accounts .entry); numbers = now (lasts .entry) }) (answerOf r) (now (amounts .entry)) (now (amounts .exit)) ⌝ }
+{
+    forms::fill_shorts(lasts, shorts);
+    let answer = allocation::allocate(terms, codes, accounts, shorts, amounts);
+    answer_in(Form::LastNumbers, answer)
+}
+
+// The allocating call on a list of last numbers. A short list has a short room for its shorts, and one that is too long is refused for its length alone.
 fn allocate_lasts(
     terms: Terms,
     codes: &[u32],
@@ -74,10 +106,12 @@ fn allocate_lasts(
     if 4096 < n {
         return allocation::allocate(terms, codes, accounts, lasts, amounts);
     }
+    if n <= 128 {
+        let mut shorts = [0u32; 128];
+        return allocate_by_shorts(terms, codes, accounts, lasts, &mut shorts[..n], amounts);
+    }
     let mut shorts = [0u32; 4096];
-    forms::fill_shorts(lasts, &mut shorts[..n]);
-    let answer = allocation::allocate(terms, codes, accounts, &shorts[..n], amounts);
-    answer_in(Form::LastNumbers, answer)
+    allocate_by_shorts(terms, codes, accounts, lasts, &mut shorts[..n], amounts)
 }
 
 // Assigns the exercised contracts to the positions, amounts in list order; or the first refusal that applies, and then amounts keeps its elements.

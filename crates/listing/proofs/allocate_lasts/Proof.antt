@@ -1,7 +1,7 @@
--- `allocate_lasts` meets its contract: the shorts are filled in, and the call is made on them.
-use mathlib.Core.Path.{sym, ap, _∙_}
+-- `allocate_lasts` meets its contract: the list that it lends has a number for each position.
+use mathlib.Core.Path.{sym}
 use lib.Seq.{length-take-le}
-use Rattle.listing.proofs.ListingLaws.{shorts-first, shorts-long, shorts-within, called-by-differences, called-too-long}
+use Rattle.listing.proofs.ListingLaws.{called-too-long}
 use borrow.Author.Needs.{needs}
 use Rattle.listing.proofs.allocate_lasts.Statement.{statement}
 use Rattle.listing.proofs.allocate_lasts.Tie as tie
@@ -18,29 +18,32 @@ returns c = let a = c .before .before .before .before .before .before .before .b
 array-borrow-prefix-shorts : tie.Need-array-borrow-prefix-shorts
 array-borrow-prefix-shorts c = search needs
 
-slice-aggregate-fill-shorts : tie.Need-slice-aggregate-fill-shorts
-slice-aggregate-fill-shorts c = sym (length-take-le _ _ (c .before .if1 .left))
+slice-aggregate-allocate-by-shorts : tie.Need-slice-aggregate-allocate-by-shorts
+slice-aggregate-allocate-by-shorts c = sym (length-take-le _ _ (c .before .if2 .taken))
 
-fill-shorts-requires : tie.Need-fill-shorts-requires
-fill-shorts-requires c κs = search needs
-
-array-share-prefix-shorts : tie.Need-array-share-prefix-shorts
-array-share-prefix-shorts c = shorts-within (c .before .before .before .before .before .before .before .before .args .lasts .now) (c .before .fill-shorts .last .1 .0) (c .before .before .before .if1 .left) (c .before .fill-shorts .ensures)
-
-slice-aggregate-allocate : tie.Need-slice-aggregate-allocate
-slice-aggregate-allocate c = shorts-long (c .before .before .before .before .before .before .before .before .before .args .lasts .now) (c .before .before .fill-shorts .last .1 .0) (c .before .before .before .before .if1 .left) (c .before .before .fill-shorts .ensures)
-
-allocate-requires-2 : tie.Need-allocate-requires-2
-allocate-requires-2 c κs = search needs
-
-answer-in-requires : tie.Need-answer-in-requires
-answer-in-requires c κs = search needs
+allocate-by-shorts-requires : tie.Need-allocate-by-shorts-requires
+allocate-by-shorts-requires c κs = length-take-le _ _ (c .before .before .if2 .taken)
 
 same-length-2 : tie.Need-same-length-2
 same-length-2 c = search needs
 
 returns-2 : tie.Need-returns-2
-returns-2 c = let a = c .before .before .before .before .before .before .before .before .before .before .before .before .before .before .args in called-by-differences (a .terms) (a .codes .now) (a .accounts .now) (a .lasts .now) _ _ _ (a .amounts .now) _ (shorts-first (a .lasts .now) (c .before .before .before .before .before .before .before .fill-shorts .last .1 .0) (c .before .before .before .before .before .before .before .before .before .if1 .left) (c .before .before .before .before .before .before .before .fill-shorts .ensures)) (c .answer-in .ensures) (c .before .before .before .allocate2 .ensures)
+returns-2 c = search needs
+
+array-borrow-prefix-shorts-2 : tie.Need-array-borrow-prefix-shorts-2
+array-borrow-prefix-shorts-2 c = search needs
+
+slice-aggregate-allocate-by-shorts-2 : tie.Need-slice-aggregate-allocate-by-shorts-2
+slice-aggregate-allocate-by-shorts-2 c = sym (length-take-le _ _ (c .before .before .if1 .left))
+
+allocate-by-shorts-requires-2 : tie.Need-allocate-by-shorts-requires-2
+allocate-by-shorts-requires-2 c κs = length-take-le _ _ (c .before .before .before .if1 .left)
+
+same-length-3 : tie.Need-same-length-3
+same-length-3 c = search needs
+
+returns-3 : tie.Need-returns-3
+returns-3 c = search needs
 
 pub allocate-lasts-spec : {M : Type 1} → statement M
 allocate-lasts-spec =
@@ -50,11 +53,12 @@ allocate-lasts-spec =
     same-length
     returns
     array-borrow-prefix-shorts
-    slice-aggregate-fill-shorts
-    fill-shorts-requires
-    array-share-prefix-shorts
-    slice-aggregate-allocate
-    allocate-requires-2
-    answer-in-requires
+    slice-aggregate-allocate-by-shorts
+    allocate-by-shorts-requires
     same-length-2
-    returns-2)
+    returns-2
+    array-borrow-prefix-shorts-2
+    slice-aggregate-allocate-by-shorts-2
+    allocate-by-shorts-requires-2
+    same-length-3
+    returns-3)
