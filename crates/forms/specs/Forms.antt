@@ -61,7 +61,7 @@ unfoldable pub listVerdictIn : Form → Method → List ℕ → List ℕ → Lis
 listVerdictIn f m codes accounts numbers = inForm f (listVerdict m codes accounts (shortsBy f numbers))
 
 -- document 02's rows for each position in turn, by its last number: 20 for one not above the one before (0 before the first), 7 for one above 10,000,000.
--- What a list of last numbers meets is the first of these (`by-last-numbers` in FormLaws)
+-- What a list of last numbers meets is the first of these (`by-last-numbers` in LastRows)
 unfoldable pub lastRows : Method → List ℕ → ℕ → ℕ → List ℕ → List ℕ → List ℕ → List Row
 lastRows m earlier before last [] rest ns = []
 lastRows m earlier before last (k ∷ ks) [] ns = []
