@@ -7,7 +7,7 @@ use answer_numbers::numbers_of;
 use answer_numbers::terms_of;
 use assignment_text::Response;
 use series_text::Reading;
-use series_text::letters::Named;
+use text_words::letters::Named;
 use text_writing::Writing;
 ghost use mathlib.Core.Path.{_≡_};
 ghost use lib.ListN.{length};
@@ -33,7 +33,7 @@ pub extern "C" fn dilbreth_allocate(
 ) -> u32
     ensures { λ r. ⌜ Allocates (listingBy method form exercised draw (now (codes .entry)) (now (accounts .entry)) (now (numbers .entry))) r (now (amounts .entry)) (now (amounts .exit)) (record { old = now (total .entry); new = now (total .exit) }) (record { old = now (further .entry); new = now (further .exit) }) ⌝ }
 {
-    let Named::Method(named) = series_text::letters::method_by(method) else {
+    let Named::Method(named) = text_words::letters::method_by(method) else {
         return 14;
     };
     let terms = terms_of(named, exercised, draw);
@@ -77,7 +77,7 @@ pub extern "C" fn dilbreth_read(
             positions: n,
         } => {
             let named = terms.method;
-            *method = series_text::letters::letter_of(named);
+            *method = text_words::letters::letter_of(named);
             *exercised = terms.exercised.0;
             *draw = terms.draw;
             *form = answer_numbers::number_of(listed);
@@ -116,7 +116,7 @@ pub extern "C" fn dilbreth_write(
 ) -> u32
     ensures { λ r. ⌜ Writes (writtenBy (listingBy method form exercised draw (now (codes .entry)) (now (accounts .entry)) (now (numbers .entry))) (length (now (text .entry)))) r (now (text .entry)) (now (text .exit)) (record { old = now (written .entry); new = now (written .exit) }) ⌝ }
 {
-    let Named::Method(named) = series_text::letters::method_by(method) else {
+    let Named::Method(named) = text_words::letters::method_by(method) else {
         return 14;
     };
     let terms = terms_of(named, exercised, draw);

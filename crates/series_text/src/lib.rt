@@ -1,13 +1,11 @@
 // Reading the text of a series into three lent lists.
-pub mod letters;
 mod lines;
-pub mod names;
 
 use forms::Form;
-use lines::HeadLines;
 use lines::Positions;
 use series::Refusal;
 use series::Terms;
+use text_head::HeadLines;
 ghost use mathlib.Core.Path.{_≡_};
 ghost use Prim.Native.Nat.{_≤_};
 ghost use mathlib.Core.List.{_++_};
@@ -46,7 +44,7 @@ pub fn read(text: &[u8], codes: &mut [u32], accounts: &mut [u32], numbers: &mut 
     ensures { λ _. ⌜ now (accounts .exit) ≡ after (readInto (now (text .entry)) (length (now (codes .entry))) (length (now (accounts .entry))) (length (now (numbers .entry)))) (λ s. onto (s .accounts) (now (accounts .entry))) (now (accounts .entry)) ⌝ }
     ensures { λ _. ⌜ now (numbers .exit) ≡ after (readInto (now (text .entry)) (length (now (codes .entry))) (length (now (accounts .entry))) (length (now (numbers .entry)))) (λ s. onto (s .numbers) (now (numbers .entry))) (now (numbers .entry)) ⌝ }
 {
-    let head = lines::read_head(text);
+    let head = text_head::read_head(text);
     match head {
         HeadLines::Refused(refusal) => Reading::Refused(refusal),
         HeadLines::Head(terms, form, coded, next) => {

@@ -1,121 +1,20 @@
-// Reading the lines of a text.
-use crate::letters::Named;
-use crate::letters::method_by;
-use crate::names::Names;
-use crate::names::form_of;
-use crate::names::is_coded;
-use crate::names::read_columns;
-use crate::names::read_names;
-use forms::Form;
-use series::Contracts;
+// Reading the position lines of a text.
 use series::Refusal;
-use series::Terms;
-use text_fields::field::Found;
-use text_fields::field::find_end;
 use text_fields::row::RowEnd;
-use text_fields::row::has_fields;
 use text_fields::row::read_row;
-use text_rules::Heading;
 ghost use mathlib.Core.Path.{_≡_};
 ghost use Prim.Native.Nat.{_≤_};
 ghost use lib.ListN.{length, drop};
-ghost use lib.Seq.{slice};
-ghost use Rattle.series.specs.Results.{refused};
-ghost use Rattle.series.specs.Answers.{numberOf};
 ghost use Rattle.series.specs.declared.Terms.{Terms as Terms·};
 ghost use Rattle.forms.specs.declared.Form.{Form as Form·};
-ghost use Rattle.text_rules.specs.Letters.{methodOf};
-ghost use Rattle.text_rules.specs.Text.{readTerms, readHead, readPositions, MOST_LINES};
+ghost use Rattle.text_rules.specs.Text.{readPositions, MOST_LINES};
 ghost use Rattle.text_fields.specs.Parts.{rowMeans};
-ghost use Rattle.series_text.specs.Parts.{namedMeans, TermsMalformed, termsMeans, headMeans, readPosition, positionsMean, positionsWithin};
-
-// The values of line 2, and the index after it.
-pub enum TermsLine {
-    Terms(Terms, usize),
-    Refused(Refusal),
-}
-
-// Lines 1 to 3: the values of line 2, the form of the position lines, whether each begins with a code, and the index after them.
-pub enum HeadLines {
-    Head(Terms, Form, bool, usize),
-    Refused(Refusal),
-}
+ghost use Rattle.series_text.specs.Parts.{readPosition, positionsMean, positionsWithin};
 
 // How many positions were read.
 pub enum Positions {
     Read(usize),
     Refused(Refusal),
-}
-
-// The method that the field from one index to another names: exactly W, P, L or R.
-fn read_method(text: &[u8], from: usize, to: usize) -> Named
-    requires { ⌜ (from ≤ to) × (to ≤ length (now text)) ⌝ }
-    ensures { λ r. ⌜ namedMeans r ≡ methodOf (slice from to (now (text .entry))) ⌝ }
-{
-    let bytes = to - from;
-    if bytes != 1 {
-        return Named::Unknown;
-    }
-    method_by(text[from])
-}
-
-// The refusal of a line 2 whose numbers are malformed: its fields are counted before the method is looked at.
-fn refuse_terms(text: &[u8], at: usize, comma: usize) -> Refusal
-    requires { ⌜ TermsMalformed (now text) at comma ⌝ }
-    ensures { λ r. ⌜ refused (numberOf r) ≡ readTerms (drop at (now (text .entry))) ⌝ }
-{
-    if !has_fields(text, comma + 1, 2) {
-        return Refusal::Malformed;
-    }
-    let Named::Method(_) = read_method(text, at, comma) else {
-        return Refusal::UnknownMethod;
-    };
-    Refusal::Malformed
-}
-
-// Line 2 at an index: its fields first, then the method, then the numbers.
-fn read_terms(text: &[u8], at: usize) -> TermsLine
-    ensures { λ r. ⌜ termsMeans (now (text .entry)) r ≡ readTerms (drop at (now (text .entry))) ⌝ }
-{
-    let Found::At(comma) = find_end(text, at, b',') else {
-        return TermsLine::Refused(Refusal::Malformed);
-    };
-    let mut values = [0u32; 2];
-    let RowEnd::At(next) = read_row(text, comma + 1, &mut values) else {
-        return TermsLine::Refused(refuse_terms(text, at, comma));
-    };
-    let Named::Method(method) = read_method(text, at, comma) else {
-        return TermsLine::Refused(Refusal::UnknownMethod);
-    };
-    TermsLine::Terms(
-        Terms {
-            method,
-            exercised: Contracts(values[0]),
-            draw: values[1],
-        },
-        next,
-    )
-}
-
-// Lines 1 to 3 of a text that is not too long.
-pub fn read_head(text: &[u8]) -> HeadLines
-    ensures { λ r. ⌜ headMeans (now (text .entry)) r ≡ readHead (now (text .entry)) ⌝ }
-{
-    if text.len() > 32768 {
-        return HeadLines::Refused(Refusal::TextTooLong);
-    }
-    let Names::Line(_, line2) = read_names(text, 0, Heading::Terms) else {
-        return HeadLines::Refused(Refusal::NamesLine);
-    };
-    match read_terms(text, line2) {
-        TermsLine::Refused(refusal) => HeadLines::Refused(refusal),
-        TermsLine::Terms(terms, line3) => {
-            let Names::Line(heading, lines) = read_columns(text, line3) else {
-                return HeadLines::Refused(Refusal::NamesLine);
-            };
-            HeadLines::Head(terms, form_of(heading), is_coded(heading), lines)
-        }
-    }
 }
 
 // Reads the code, the account and the shorts or last number of a position line at an index. Without a code of its own the code is the account.

@@ -1,11 +1,11 @@
 // Writing the names lines.
 use crate::put::put_line;
-use series_text::names::CODED_LAST_NAMES;
-use series_text::names::CODED_NAMES;
-use series_text::names::LAST_NAMES;
-use series_text::names::POSITION_NAMES;
-use series_text::names::TERMS_NAMES;
 use text_rules::Heading;
+use text_words::names::CODED_LAST_NAMES;
+use text_words::names::CODED_NAMES;
+use text_words::names::LAST_NAMES;
+use text_words::names::POSITION_NAMES;
+use text_words::names::TERMS_NAMES;
 ghost use Prim.Native.Nat.{_+_, _≤_};
 ghost use lib.ListN.{length};
 ghost use Rattle.text_rules.specs.Names.{namesLine};

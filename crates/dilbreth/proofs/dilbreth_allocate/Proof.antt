@@ -1,6 +1,6 @@
 -- `dilbreth_allocate` meets its contract: the letter's method is called, and its answer handed back.
 use mathlib.Core.Path.{sym, ap, _∙_}
-use Rattle.series_text.specs.Parts.{namedMeans}
+use Rattle.text_words.specs.Parts.{namedMeans}
 use Rattle.answer_numbers.specs.Numbers.{numbersMean}
 use Rattle.dilbreth.proofs.ExportLaws.{allocate-unknown, allocate-known}
 use borrow.Author.Needs.{needs}

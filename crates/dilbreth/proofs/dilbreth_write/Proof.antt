@@ -1,6 +1,6 @@
 -- `dilbreth_write` meets its contract: the letter's method is written, and the length handed back.
 use mathlib.Core.Path.{sym, ap, _∙_}
-use Rattle.series_text.specs.Parts.{namedMeans}
+use Rattle.text_words.specs.Parts.{namedMeans}
 use Rattle.dilbreth.proofs.ExportLaws.{write-unknown, write-known}
 use borrow.Author.Needs.{needs}
 use Rattle.dilbreth.proofs.dilbreth_write.Statement.{statement}

@@ -4,8 +4,9 @@ use mathlib.Core.Path.{_≡_, refl, sym, ap, subst, _∙_}
 use borrow.Author.Needs.{needs}
 use lib.ListN.{drop}
 use Rattle.text_rules.specs.Text.{MOST_LINES, readHead}
-use Rattle.series_text.specs.Parts.{headMeans, positionsMean, positionsWithin}
-use Rattle.series_text.specs.declared.lines.HeadLines.{HeadLines}
+use Rattle.text_head.specs.Parts.{headMeans}
+use Rattle.series_text.specs.Parts.{positionsMean, positionsWithin}
+use Rattle.text_head.specs.declared.HeadLines.{HeadLines}
 use Rattle.text_rules.proofs.ReadLaws.{PositionsRead, head-refused, positions-fault, codes-short, accounts-short, numbers-short, read-all}
 use Rattle.series_text.proofs.read.Statement.{statement}
 use Rattle.series_text.proofs.read.Tie as tie

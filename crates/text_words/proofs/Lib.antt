@@ -1,0 +1,2 @@
+-- Laws that the proofs of the names lines cite.
+pub mod NameLaws

@@ -1,0 +1,2 @@
+-- What the functions of src/ answer.
+pub mod Parts
