@@ -1,10 +1,10 @@
 // Reads the text of a series from standard input, and writes to standard output its amounts or its refusal. Standard error is for people.
 ghost use lib.ListN.{length};
 ghost use Prim.Native.Nat.{_≤_};
-ghost use Rattle.assignment_text.specs.Printed.{printed, MOST_PRINTED};
-ghost use Rattle.assignment_text.specs.Responses.{responseOf, Whole};
-use assignment_text::Response;
+ghost use Rattle.responses.specs.Printed.{printed, MOST_PRINTED};
+ghost use Rattle.responses.specs.Responses.{responseOf, Whole};
 use console::Input;
+use responses::Response;
 
 // The program's name.
 const PROGRAM: [u8; 6] = *b"assign";

@@ -7,7 +7,7 @@ use lib.ListN.{length, getD, set}
 use Rattle.series.specs.Sums.{listed}
 use Rattle.series.specs.Places.{total, before, last}
 use Rattle.series.specs.RemainderDraw.{firstRange, secondRange}
-use Rattle.assignment_text.specs.Printed.{rangeColumns}
+use Rattle.responses.specs.Printed.{rangeColumns}
 use Rattle.series.proofs.ListLaws.{filled, fill-none, fill-more, fill-length, fill-rest, fill-all}
 use Rattle.series.proofs.SumLaws.{length-listed, getD-listed, listed-cong}
 use Rattle.series.proofs.RangeLaws.{ranges-within}

@@ -1,6 +1,3 @@
--- Claims and laws of what is printed for a text.
-pub mod Claims
+-- Laws of the printing.
 pub mod PrintLaws
-pub mod RoomLaws
 pub mod FillLaws
-pub mod SpellingLaws

@@ -1,4 +1,2 @@
--- The text that the program prints for a text.
-pub mod Printed
-pub mod Responses
+-- What printing asks of the lists of a series.
 pub mod Lists

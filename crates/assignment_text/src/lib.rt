@@ -5,58 +5,28 @@ ghost use mathlib.Core.Path.{_≡_};
 ghost use Prim.Native.Nat.{_≤_};
 ghost use mathlib.Core.List.{_++_};
 ghost use lib.ListN.{length};
-ghost use Rattle.series.specs.Answers.{numberOf};
 ghost use Rattle.series.specs.Results.{status};
 ghost use Rattle.series.specs.Places.{total as totalOf};
 ghost use Rattle.series.specs.Series.{MOST_CONTRACTS};
 ghost use Rattle.forms.specs.Forms.{shortsBy};
 ghost use Rattle.text_rules.specs.Text.{MOST_LINES};
-ghost use Rattle.text_writing.specs.Answers.{writingOf};
-ghost use Rattle.assignment_text.specs.Printed.{refusedLines, assignedLines, rangeLines, rangesBy, seriesOrRefusal, textOrRefusal, linesFor, printed};
-ghost use Rattle.assignment_text.specs.Responses.{responseOf, writtenHands, Responds};
+ghost use Rattle.responses.specs.Printed.{assignedLines, rangeLines, rangesBy, seriesOrRefusal, textOrRefusal, linesFor, printed};
+ghost use Rattle.responses.specs.Responses.{Responds};
 ghost use Rattle.assignment_text.specs.Lists.{Lists, RangeLists};
 use forms::Form;
+use responses::Response;
+use responses::answer_written;
+use responses::refuse;
 use series::Answer;
 use series::Method;
-use series::Refusal;
 use series::Terms;
 use series_text::Reading;
-use text_writing::Writing;
 
 // The line before the amounts of an allocation.
 const ASSIGNED_NAMES: [u8; 17] = *b"account,assigned\n";
 
 // The line before the ranges, which R has after the amounts.
 const RANGE_NAMES: [u8; 32] = *b"account,first,last,first2,last2\n";
-
-// The line before the number of a refusal.
-const REFUSED_LINE: [u8; 8] = *b"refused\n";
-
-// What a call that prints answers: how many bytes; or how many for a refusal, with the refusal, which is 4 with no bytes where the output is too short.
-pub enum Response {
-    Printed(usize),
-    Refused(usize, Refusal),
-}
-
-// Prints a refusal: the line `refused` and a line with its number.
-pub fn refuse(refusal: Refusal, output: &mut [u8]) -> Response
-    ensures { λ r. ⌜ Responds r (refusedLines (numberOf refusal)) (numberOf refusal) (now (output .entry)) (now (output .exit)) ⌝ }
-{
-    match text_writing::write_note(&REFUSED_LINE, series::number(refusal), output) {
-        Writing::Written(n) => Response::Refused(n, refusal),
-        Writing::Refused(_) => Response::Refused(0, Refusal::OutputTooShort),
-    }
-}
-
-// What is answered for an allocation, after it was written or did not fit.
-fn answer_written(writing: Writing) -> Response
-    ensures { λ r. ⌜ responseOf r ≡ writtenHands (writingOf writing) ⌝ }
-{
-    match writing {
-        Writing::Written(n) => Response::Printed(n),
-        Writing::Refused(_) => Response::Refused(0, Refusal::OutputTooShort),
-    }
-}
 
 // Prints the amounts of an allocation.
 fn print(accounts: &[u32], amounts: &[u32], output: &mut [u8]) -> Response

@@ -8,7 +8,7 @@ ghost use Rattle.series.specs.Sums.{listed};
 ghost use Rattle.series.specs.Places.{total as totalOf};
 ghost use Rattle.series.specs.Series.{MOST_CONTRACTS};
 ghost use Rattle.series.specs.RemainderDraw.{firstRange};
-ghost use Rattle.assignment_text.specs.Printed.{rangeColumns};
+ghost use Rattle.responses.specs.Printed.{rangeColumns};
 ghost use Rattle.assignment_text.specs.Lists.{RangeLists};
 
 // Fills in the first number of each position's first range, puts the last one in the place of its shorts, and hands back T.

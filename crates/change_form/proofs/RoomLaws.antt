@@ -1,10 +1,9 @@
 -- All that is printed for a text stands in an output of 31,809 bytes.
 use Prim.Native.Nat.{ℕ, _≤_}
-use mathlib.Core.Path.{_≡_, refl, sym, ap, subst, _∙_}
-use mathlib.Core.List.{List, _++_}
+use mathlib.Core.Path.{_≡_, refl, sym, ap, _∙_}
+use mathlib.Core.List.{_++_}
 use native.Mathlib.Omega.{arith}
 use borrow.Author.Tests.{le-ltb}
-use lib.Dec.{ltb}
 use lib.ListN.{length, drop}
 use lib.Seq.{take-at}
 use Rattle.series.specs.Results.{Result, refused, value, _>>=_, refuse, after}
@@ -16,10 +15,10 @@ use Rattle.text_rules.specs.Text.{readText, writeText}
 use Rattle.text_rules.specs.Calls.{changedInto, changeInto, MOST_CHANGED, lengthOf}
 use Rattle.text_rules.proofs.ShortestText.{read-writable}
 use Rattle.text_rules.proofs.ChangeLaws.{Change, change-writes, changed-short}
-use Rattle.assignment_text.specs.Printed.{refusedLines}
-use Rattle.assignment_text.specs.Responses.{responseOf, Responds, Whole}
-use Rattle.assignment_text.specs.declared.Response.{Response}
-use Rattle.assignment_text.proofs.RoomLaws.{refused-room, responds-whole}
+use Rattle.responses.specs.Printed.{refusedLines}
+use Rattle.responses.specs.Responses.{responseOf, Responds, Whole}
+use Rattle.responses.specs.declared.Response.{Response}
+use Rattle.responses.proofs.RoomLaws.{refused-room, responds-whole}
 use Rattle.change_form.specs.Changed.{linesOf, changedLines}
 
 -- in an output that is long enough the change is the same

@@ -1,9 +1,8 @@
 -- What the program prints for a text: its change, or the number of a refusal.
-use Prim.Native.Nat.{ℕ}
 use Rattle.series.specs.Results.{Result, refused, value}
 use Rattle.text_rules.specs.Fields.{Text}
 use Rattle.text_rules.specs.Calls.{MOST_CHANGED, changeInto}
-use Rattle.assignment_text.specs.Printed.{refusedLines}
+use Rattle.responses.specs.Printed.{refusedLines}
 
 -- the changed text, or for a refusal the line `refused` and a line with the number
 unfoldable pub linesOf : Result Text → Text

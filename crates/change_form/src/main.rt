@@ -1,10 +1,10 @@
 // Reads a text from standard input, and writes it to standard output in the other form, or its refusal. Standard error is for people.
-use assignment_text::Response;
 use console::Input;
+use responses::Response;
 use text_writing::Writing;
 ghost use lib.ListN.{length};
 ghost use Prim.Native.Nat.{_≤_};
-ghost use Rattle.assignment_text.specs.Responses.{responseOf, Whole};
+ghost use Rattle.responses.specs.Responses.{responseOf, Whole};
 ghost use Rattle.text_rules.specs.Calls.{MOST_CHANGED};
 ghost use Rattle.change_form.specs.Changed.{changedLines};
 
@@ -28,7 +28,7 @@ fn respond(text: &[u8], output: &mut [u8]) -> Response
 {
     match form_change::change(text, output) {
         Writing::Written(n) => Response::Printed(n),
-        Writing::Refused(refusal) => assignment_text::refuse(refusal, output),
+        Writing::Refused(refusal) => responses::refuse(refusal, output),
     }
 }
 

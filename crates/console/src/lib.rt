@@ -3,13 +3,13 @@ ghost use lib.ListN.{length};
 ghost use mathlib.Core.Path.{_≡_};
 ghost use Prim.Native.Nat.{_≤_};
 ghost use Rattle.console.specs.Inputs.{Within};
-ghost use Rattle.assignment_text.specs.Responses.{responseOf};
+ghost use Rattle.responses.specs.Responses.{responseOf};
 ghost use Rattle.explanation.specs.Explanation.{LONGEST as longest};
-use assignment_text::Response;
 use libc::EINTR;
 use libc::STDERR_FILENO;
 use libc::STDIN_FILENO;
 use libc::STDOUT_FILENO;
+use responses::Response;
 use series::Refusal;
 
 // What reading came to: a number of bytes, or a failure, which is never taken for the end of the input.

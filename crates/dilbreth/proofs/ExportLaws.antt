@@ -9,18 +9,18 @@ use lib.ListN.{length}
 use Rattle.series.specs.Results.{Result, refused, value, refuse, after, status}
 use Rattle.series.specs.Outputs.{onto, ontoRoom}
 use Rattle.series.specs.Answers.{Allocation, handedBack}
-use Rattle.series.specs.Call.{answer, output}
+use Rattle.series.specs.Call.{output}
 use Rattle.series.specs.declared.Method.{Method}
 use Rattle.series.specs.declared.Terms.{Terms}
-use Rattle.forms.specs.Forms.{Listing, seriesIn, inForm, ListingCall}
+use Rattle.forms.specs.Forms.{Listing, ListingCall}
 use Rattle.forms.specs.declared.Form.{Form}
 use Rattle.text_rules.specs.Fields.{Text}
 use Rattle.text_rules.specs.Letters.{letter, methodBy}
 use Rattle.text_rules.specs.Calls.{Handed, handed, writeInto, lengthOf}
-use Rattle.assignment_text.specs.Printed.{printed}
-use Rattle.assignment_text.specs.Responses.{Printing, responseOf, printInto, Responds}
-use Rattle.assignment_text.specs.declared.Response.{Response}
-use Rattle.assignment_text.proofs.RoomLaws.{printed-room}
+use Rattle.responses.specs.Printed.{printed}
+use Rattle.responses.specs.Responses.{Printing, responseOf, printInto, Responds}
+use Rattle.responses.specs.declared.Response.{Response}
+use Rattle.responses.proofs.RoomLaws.{printed-room}
 use Rattle.answer_numbers.specs.Numbers.{formBy, formNumber, Handing, handedNumbers}
 use Rattle.dilbreth.specs.Exports.{listingBy, called, Allocates, Reads, writtenBy, printedInto, Writes}
 

@@ -13,7 +13,7 @@ use Rattle.answer_numbers.specs.Numbers.{formBy, formNumber}
 use Rattle.text_rules.specs.Fields.{Text}
 use Rattle.text_rules.specs.Letters.{letter, methodBy}
 use Rattle.text_rules.specs.Calls.{writeInto}
-use Rattle.assignment_text.specs.Printed.{printed}
+use Rattle.responses.specs.Printed.{printed}
 
 -- the listing whose method comes as its letter and whose form as its number; any other letter is 14 before all other refusals
 unfoldable pub listingBy : ℕ → ℕ → ℕ → ℕ → List ℕ → List ℕ → List ℕ → Result Listing

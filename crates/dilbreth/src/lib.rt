@@ -5,7 +5,7 @@ mod explain;
 use answer_numbers::Numbers;
 use answer_numbers::numbers_of;
 use answer_numbers::terms_of;
-use assignment_text::Response;
+use responses::Response;
 use series_text::Reading;
 use text_words::letters::Named;
 use text_writing::Writing;

@@ -1,5 +1,5 @@
 -- `respond` meets its contract: all that can be printed fits the output.
-use Rattle.assignment_text.proofs.RoomLaws.{printed-whole}
+use Rattle.responses.proofs.RoomLaws.{printed-whole}
 use borrow.Author.Needs.{needs}
 use Rattle.assign.proofs.respond.Statement.{statement}
 use Rattle.assign.proofs.respond.Tie as tie

@@ -5,8 +5,9 @@ use Rattle.series.specs.Ascii.{ascii}
 use Rattle.series.specs.Results.{after}
 use Rattle.series.specs.Outputs.{onto}
 use Rattle.text_rules.specs.Calls.{lengthOf}
-use Rattle.assignment_text.specs.Printed.{assignedLines}
-use Rattle.assignment_text.proofs.PrintLaws.{table-is, allocation-printed}
+use Rattle.responses.specs.Printed.{assignedLines}
+use Rattle.responses.proofs.ResponseLaws.{allocation-printed}
+use Rattle.assignment_text.proofs.PrintLaws.{table-is}
 use Rattle.assignment_text.proofs.print.Statement.{statement}
 use Rattle.assignment_text.proofs.print.Tie as tie
 use borrow.Author.Needs.{needs}

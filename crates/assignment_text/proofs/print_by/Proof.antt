@@ -1,6 +1,6 @@
 -- `print_by` meets its contract: each method's own case.
 use mathlib.Core.List.{append-nil}
-use Rattle.assignment_text.specs.Printed.{rangesBy}
+use Rattle.responses.specs.Printed.{rangesBy}
 use Rattle.assignment_text.proofs.PrintLaws.{none-ranged}
 use borrow.Author.Needs.{needs}
 use Rattle.assignment_text.proofs.print_by.Statement.{statement}

@@ -7,8 +7,9 @@ use Rattle.series.specs.Results.{after}
 use Rattle.series.specs.Outputs.{onto}
 use Rattle.text_rules.specs.Calls.{lengthOf}
 use Rattle.text_writing.specs.Tables.{tablesInto}
-use Rattle.assignment_text.specs.Printed.{assignedLines, rangeLines}
-use Rattle.assignment_text.proofs.PrintLaws.{tables-are, allocation-printed}
+use Rattle.responses.specs.Printed.{assignedLines, rangeLines}
+use Rattle.responses.proofs.ResponseLaws.{allocation-printed}
+use Rattle.assignment_text.proofs.PrintLaws.{tables-are}
 use borrow.Author.Needs.{needs}
 use Rattle.assignment_text.proofs.print_ranges.Statement.{statement}
 use Rattle.assignment_text.proofs.print_ranges.Tie as tie

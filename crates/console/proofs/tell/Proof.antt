@@ -1,7 +1,7 @@
 -- `tell` meets its contract.
 use mathlib.Core.Path.{ap}
 use native.Mathlib.Omega.{arith}
-use Rattle.assignment_text.specs.Responses.{responseOf}
+use Rattle.responses.specs.Responses.{responseOf}
 use borrow.Author.Needs.{needs}
 use Rattle.console.proofs.tell.Statement.{statement}
 use Rattle.console.proofs.tell.Tie as tie

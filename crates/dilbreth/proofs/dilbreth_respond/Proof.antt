@@ -1,7 +1,7 @@
 -- `dilbreth_respond` meets its contract: what is printed has at least one byte, so that no byte tells a short output.
-use mathlib.Core.Path.{refl, sym, ap, _∙_}
+use mathlib.Core.Path.{ap}
 use native.Mathlib.Omega.{arith}
-use Rattle.assignment_text.specs.Responses.{responseOf}
+use Rattle.responses.specs.Responses.{responseOf}
 use Rattle.dilbreth.proofs.ExportLaws.{respond-whole, respond-none}
 use borrow.Author.Needs.{needs}
 use Rattle.dilbreth.proofs.dilbreth_respond.Statement.{statement}

@@ -17,7 +17,7 @@ use Rattle.text_rules.specs.Rows.{numbers, readRow, readRows, writeRow, writeRo
 use Rattle.text_rules.specs.Names.{namesLine, afterLine, headingOr, readNames}
 use Rattle.text_rules.specs.Letters.{letter, methodAmong, methodBy, methodOf}
 use Rattle.text_rules.specs.Text.{readTerms, readHead, readPositions, readText}
-use Rattle.assignment_text.specs.Printed.{refusedLines, assignedLines, rangeColumns, rangeLines, rangesBy, seriesOrRefusal, textOrRefusal, linesFor, printed}
+use Rattle.responses.specs.Printed.{refusedLines, assignedLines, rangeColumns, rangeLines, rangesBy, seriesOrRefusal, textOrRefusal, linesFor, printed}
 
 -- a text, and what is printed for it
 pub record Case : Type 0 where

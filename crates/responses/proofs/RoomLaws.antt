@@ -1,5 +1,5 @@
 -- What is printed for any text: at least a line, and at most 70,705 bytes.
-use Prim.Native.Nat.{ℕ, _+_, _^_, _≤_, _<_}
+use Prim.Native.Nat.{ℕ, _^_, _≤_, _<_}
 use mathlib.Core.Path.{_≡_, refl, ap, subst}
 use mathlib.Core.List.{List, [], _∷_, _++_}
 use native.Mathlib.Omega.{arith}
@@ -7,7 +7,7 @@ use borrow.Author.Tests.{le-ltb}
 use lib.ListN.{length, getD, drop, length-append}
 use lib.Seq.{take-at}
 use Rattle.series.specs.Ascii.{ascii}
-use Rattle.series.specs.Results.{Result, refused, value, _>>=_}
+use Rattle.series.specs.Results.{Result, refused, value}
 use Rattle.series.specs.Outputs.{onto, ontoRoom}
 use Rattle.series.specs.Sums.{listed}
 use Rattle.series.specs.Places.{total}
@@ -29,9 +29,9 @@ use Rattle.text_rules.specs.Calls.{lineCount}
 use Rattle.text_rules.proofs.DecimalLaws.{digits-few, digits-within}
 use Rattle.text_rules.proofs.RowLaws.{row-few}
 use Rattle.text_rules.proofs.LengthLaws.{length-row, lines-most, rows-room}
-use Rattle.assignment_text.specs.Printed.{refusedLines, assignedLines, rangeColumns, rangeLines, rangesBy, seriesOrRefusal, textOrRefusal, linesFor, printed, MOST_PRINTED}
-use Rattle.assignment_text.specs.Responses.{Printing, responseOf, printInto, Responds, Whole}
-use Rattle.assignment_text.specs.declared.Response.{Response}
+use Rattle.responses.specs.Printed.{refusedLines, assignedLines, rangeColumns, rangeLines, rangesBy, seriesOrRefusal, textOrRefusal, linesFor, printed, MOST_PRINTED}
+use Rattle.responses.specs.Responses.{Printing, responseOf, printInto, Responds, Whole}
+use Rattle.responses.specs.declared.Response.{Response}
 use Rattle.text_rules.proofs.ReadingLaws.{few-positions}
 
 -- so many bytes are at least one and at most what can be printed

@@ -8,7 +8,7 @@ use Rattle.series.specs.Answers.{numberOf}
 use Rattle.series.specs.Outputs.{ontoRoom}
 use Rattle.series.specs.Results.{Result, refused, value}
 use Rattle.text_rules.specs.Fields.{Text}
-use Rattle.assignment_text.specs.declared.Response.{Response}
+use Rattle.responses.specs.declared.Response.{Response}
 
 -- how many bytes are printed, and the number of the refusal, 0 where there is none
 pub record Printing : Type 0 where

@@ -1,8 +1,8 @@
 -- `answer_written` meets its contract.
 use mathlib.Core.Path.{refl}
 use borrow.Author.Needs.{needs}
-use Rattle.assignment_text.proofs.answer_written.Statement.{statement}
-use Rattle.assignment_text.proofs.answer_written.Tie as tie
+use Rattle.responses.proofs.answer_written.Statement.{statement}
+use Rattle.responses.proofs.answer_written.Tie as tie
 
 enum-known-writing : tie.Need-enum-known-writing
 enum-known-writing c = search needs

@@ -14,7 +14,7 @@ use Rattle.text_rules.proofs.RoundTrip.{spelledText, TextSpells, any-spelling}
 use Rattle.text_rules.proofs.ShortestText.{read-again}
 use Rattle.text_rules.specs.Calls.{changeInto}
 use Rattle.text_rules.proofs.ChangeLaws.{Change, change-made, back-again}
-use Rattle.assignment_text.specs.Printed.{seriesOrRefusal, textOrRefusal, linesFor, printed}
+use Rattle.responses.specs.Printed.{seriesOrRefusal, textOrRefusal, linesFor, printed}
 
 -- a text that reads as a listing
 read-printed : (s : Text) (t : Listing) → readText s ≡ value t → printed s ≡ linesFor (seriesOrRefusal (t .form) (seriesIn t))

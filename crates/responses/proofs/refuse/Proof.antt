@@ -7,12 +7,12 @@ use Rattle.series.specs.Outputs.{onto}
 use Rattle.series.specs.Ascii.{ascii}
 use Rattle.text_writing.specs.Answers.{writingOf}
 use Rattle.text_rules.specs.Calls.{lengthOf}
-use Rattle.assignment_text.specs.Printed.{refusedLines}
-use Rattle.assignment_text.specs.declared.Response.{Response}
-use Rattle.assignment_text.proofs.PrintLaws.{textInto, note-is, print-short, print-all}
+use Rattle.responses.specs.Printed.{refusedLines}
+use Rattle.responses.specs.declared.Response.{Response}
+use Rattle.responses.proofs.ResponseLaws.{textInto, note-is, print-short, print-all}
 use borrow.Author.Needs.{needs}
-use Rattle.assignment_text.proofs.refuse.Statement.{statement}
-use Rattle.assignment_text.proofs.refuse.Tie as tie
+use Rattle.responses.proofs.refuse.Statement.{statement}
+use Rattle.responses.proofs.refuse.Tie as tie
 
 -- the note is written
 hands : (c : tie.After-write-note) → writingOf (c .write-note .result) ≡ lengthOf (textInto (refusedLines (numberOf (c .before .before .before .before .before .args .refusal))) (length (c .before .before .before .before .before .args .output .now)))
