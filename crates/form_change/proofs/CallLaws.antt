@@ -2,9 +2,8 @@
 use Prim.Native.Nat.{ℕ, _≤_}
 use mathlib.Core.Path.{_≡_, refl, sym, ap, subst, _∙_}
 use mathlib.Core.List.{List}
-use native.Mathlib.Omega.{arith}
 use lib.ListN.{length}
-use Rattle.series.specs.Results.{Result, refused, value, _>>=_, after}
+use Rattle.series.specs.Results.{Result, refused, value, after}
 use Rattle.series.specs.Outputs.{onto}
 use Rattle.series.specs.Places.{total}
 use Rattle.series.specs.Series.{MOST_CONTRACTS}

@@ -1,11 +1,10 @@
 -- The last numbers of shorts, filled in from left to right.
 use Prim.Native.Nat.{ℕ, _+_, _≤_, _<_}
-use mathlib.Core.Path.{_≡_, refl, sym, ap, _∙_}
+use mathlib.Core.Path.{_≡_, sym, ap, _∙_}
 use mathlib.Core.List.{List}
 use native.Mathlib.Omega.{arith}
-use lib.ListN.{length, getD, set, take}
+use lib.ListN.{length, getD, set}
 use Rattle.series.specs.Sums.{listed}
-use Rattle.series.specs.Outputs.{onto}
 use Rattle.series.specs.Places.{total, before, last}
 use Rattle.series.proofs.ListLaws.{filled, fill-none, fill-more, fill-length, fill-all}
 use Rattle.series.proofs.PlaceLaws.{before-zero, before-suc, last-total}

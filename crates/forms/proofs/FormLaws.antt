@@ -1,10 +1,10 @@
 -- Differences and sums undo each other; a list in either form has one series; a change can be changed back.
 use Prim.Native.Nat.{ℕ, zero, suc, _+_, _-_, _≤_, _<_}
 use mathlib.Core.Path.{_≡_, refl, sym, ap, ap₂, subst, _∙_}
-use mathlib.Core.Bool.{Bool, true, false, not, _||_, cond}
+use mathlib.Core.Bool.{Bool, true, false, cond}
 use mathlib.Core.List.{List, [], _∷_, _++_}
 use native.Mathlib.Omega.{arith}
-use lib.Dec.{eqb, ltb, leb}
+use lib.Dec.{eqb}
 use lib.ListN.{length, getD}
 use borrow.Author.Tests.{ltb-false, eqb-false, eqb-true, not-false, ne-eqb}
 use Rattle.series.specs.Results.{Result, refused, value, _>>=_}
@@ -17,7 +17,7 @@ use Rattle.series.proofs.ResultLaws.{never, value-is, stepped}
 use Rattle.series.proofs.SumLaws.{total-term}
 use Rattle.series.proofs.ListLaws.{listed-elements}
 use Rattle.series.proofs.PlaceLaws.{last-total}
-use Rattle.series.proofs.RowLaws.{value-passed, value-same, passed-append}
+use Rattle.series.proofs.RowLaws.{value-passed, value-same}
 use Rattle.series.proofs.AcceptedLaws.{positive, or-false, positions-total}
 use Rattle.forms.specs.Forms.{Listing, differences, sums, shortsBy, seriesIn, numberIn, inForm, listVerdictIn, lastOf, otherForm, otherNumbers, inOther, changed}
 use Rattle.forms.specs.declared.Form.{Form}

@@ -1,5 +1,5 @@
 -- What last numbers meet, by document 02's words; and that an accepted list is judged alike in either form.
-use Prim.Native.Nat.{ℕ, _+_, _-_, _≤_, _<_}
+use Prim.Native.Nat.{ℕ, _+_, _-_, _<_}
 use mathlib.Core.Path.{_≡_, refl, sym, ap, ap₂, subst, _∙_}
 use mathlib.Core.Bool.{Bool, true, false, not, _||_, cond}
 use mathlib.Core.List.{List, [], _∷_, _++_}
@@ -16,7 +16,7 @@ use Rattle.series.specs.declared.Method.{Method}
 use Rattle.series.specs.declared.Terms.{Terms}
 use Rattle.series.proofs.RowLaws.{passed-value, passed-append, value-same, first-append}
 use Rattle.series.proofs.AcceptedLaws.{or-false}
-use Rattle.forms.specs.Forms.{Listing, differences, shortsBy, seriesIn, numberIn, inForm, verdictIn, listVerdictIn, lastRows, lastOf, changed}
+use Rattle.forms.specs.Forms.{Listing, differences, seriesIn, numberIn, inForm, verdictIn, listVerdictIn, lastRows, lastOf, changed}
 use Rattle.forms.specs.declared.Form.{Form}
 use Rattle.forms.proofs.FormLaws.{length-differences, same-number, SixFree, six-free, positions, change-is, same-series}
 

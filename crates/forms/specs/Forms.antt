@@ -2,12 +2,12 @@
 use Prim.Native.Nat.{ℕ, _+_, _-_}
 use mathlib.Core.Path.{_≡_}
 use mathlib.Core.Bool.{_||_, cond}
-use mathlib.Core.List.{List, [], _∷_, _++_}
+use mathlib.Core.List.{List, [], _∷_}
 use lib.Dec.{eqb, ltb, leb}
 use lib.ListN.{length}
 use Rattle.series.specs.Results.{Result, refused, value, _>>=_}
-use Rattle.series.specs.Series.{Series, MOST_CONTRACTS, orderedBy}
-use Rattle.series.specs.Refusals.{Row, _⟶_∣_, first, lengthRows, accountRefused, verdict, listVerdict}
+use Rattle.series.specs.Series.{Series, MOST_CONTRACTS}
+use Rattle.series.specs.Refusals.{Row, _⟶_∣_, accountRefused, verdict, listVerdict}
 use Rattle.series.specs.Answers.{Allocation}
 use Rattle.series.specs.Call.{answer, output}
 use Rattle.series.specs.Fair.{FairOutput}

@@ -10,7 +10,7 @@ use lib.ListN.{length}
 use Rattle.series.specs.Results.{Result, refused, value, _>>=_, after}
 use Rattle.series.specs.Outputs.{onto}
 use Rattle.series.specs.Series.{Series, MOST_POSITIONS, method}
-use Rattle.series.specs.Refusals.{verdict, listVerdict}
+use Rattle.series.specs.Refusals.{listVerdict}
 use Rattle.series.specs.Answers.{Allocation, answerOf}
 use Rattle.series.specs.Call.{answer, output, further, assigned}
 use Rattle.series.specs.Fair.{FairOutput, AllocatingCall}

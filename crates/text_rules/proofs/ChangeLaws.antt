@@ -1,27 +1,27 @@
 -- The change of a text: only a short output refuses what was judged, it can be changed back, and there and back gives the same text or the same listing.
-use Prim.Native.Nat.{ℕ, _+_, _*_, _^_, _≤_, _<_}
+use Prim.Native.Nat.{ℕ, _*_, _^_, _≤_, _<_}
 use mathlib.Core.Path.{_≡_, refl, sym, ap, subst, _∙_}
 use mathlib.Core.Bool.{Bool, true, false}
-use mathlib.Core.List.{List, [], _∷_, _++_}
+use mathlib.Core.List.{List, [], _∷_}
 use native.Mathlib.Omega.{arith}
 use borrow.Author.Tests.{le-ltb}
 use native.Mathlib.Decide.{decLt}
 use lib.Dec.{ltb}
 use lib.ListN.{length, getD, length-append, List·getD-eq-default}
-use Rattle.series.specs.Results.{Result, refused, value, _>>=_, refuse}
+use Rattle.series.specs.Results.{value, refuse}
 use Rattle.series.specs.Series.{MOST_CONTRACTS}
 use Rattle.series.proofs.ResultLaws.{stepped, value-is, not-refused}
-use Rattle.forms.specs.Forms.{Listing, inOther, changed}
+use Rattle.forms.specs.Forms.{Listing, changed}
 use Rattle.forms.proofs.FormLaws.{change-is, changed-back, changed-small, changed-length}
 use Rattle.text_rules.specs.Numbers.{LARGEST}
 use Rattle.text_rules.specs.Fields.{Text}
 use Rattle.text_rules.specs.Rows.{writeRow, writeRows, rowOf, rowsOf}
-use Rattle.text_rules.specs.Text.{MOST_BYTES, MOST_LINES, readText, writeHead, columnsBy, columns, textWith, writesCodes, writeText}
+use Rattle.text_rules.specs.Text.{MOST_BYTES, readText, writeHead, columnsBy, columns, textWith, writesCodes, writeText}
 use Rattle.text_rules.specs.Lists.{Columns}
 use Rattle.text_rules.specs.Calls.{writeInto, changedInto, changeInto, MOST_CHANGED, lengthOf}
 use Rattle.text_rules.proofs.DecimalLaws.{digits-few, digits-within}
 use Rattle.text_rules.proofs.RowLaws.{Fits}
-use Rattle.text_rules.proofs.LengthLaws.{length-row, linesOf, lines-all, lines-most, head-room, lines-written}
+use Rattle.text_rules.proofs.LengthLaws.{length-row, lines-most, head-room, lines-written}
 use Rattle.text_rules.proofs.RoundTrip.{Writable, round-trip, wrote}
 use Rattle.text_rules.proofs.ShortestText.{read-writable, read-again}
 

@@ -3,7 +3,7 @@ use mathlib.Core.Bool.{Bool, true, false, cond}
 use mathlib.Core.List.{List, [], _∷_}
 use lib.Dec.{eqb}
 use Rattle.series.specs.Ascii.{ascii}
-use Rattle.series.specs.Results.{Result, refused, value, _>>=_}
+use Rattle.series.specs.Results.{Result, refused, value}
 use Rattle.forms.specs.declared.Form.{Form}
 use Rattle.text_rules.specs.Fields.{Text, Read}
 use Rattle.text_rules.specs.declared.Heading.{Heading}

@@ -1,11 +1,11 @@
 -- `row::has_fields` meets its contract. The loop's invariant: the fields are there where those that are left are there at the cursor.
 use Prim.Native.Nat.{_-_}
-use mathlib.Core.Path.{_≡_, refl, sym, ap, subst, _∙_}
+use mathlib.Core.Path.{_≡_, refl, sym, ap, _∙_}
 use native.Mathlib.Omega.{arith}
 use borrow.Author.Needs.{needs}
-use lib.ListN.{length, drop}
+use lib.ListN.{drop}
 use Rattle.text_rules.specs.Fields.{fieldBy, endBefore}
-use Rattle.text_fields.specs.Parts.{foundMeans, foundWithin}
+use Rattle.text_fields.specs.Parts.{foundMeans}
 use Rattle.text_fields.proofs.RowLaws.{FoundAt, found-at, FieldsTo, fields-missing, fields-more, fields-all}
 use Rattle.text_fields.proofs.row.has_fields.Statement.{statement}
 use Rattle.text_fields.proofs.row.has_fields.Tie as tie
