@@ -1,2 +1,3 @@
--- Laws that the proofs of the names lines cite.
+-- Laws that the proofs of src/ cite.
+mod ColumnLaws
 pub mod NameLaws

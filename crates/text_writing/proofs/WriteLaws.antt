@@ -1,15 +1,14 @@
 -- Laws of the lines that are written: how they are put, and what the calls that write hand back and leave.
 use Prim.Native.Nat.{ℕ, zero, suc, _+_, _-_, _≤_, _<_}
 use mathlib.Core.Path.{_≡_, refl, sym, ap, _∙_}
-use mathlib.Core.Bool.{Bool, true, false, _&&_}
+use mathlib.Core.Bool.{Bool, true, false}
 use mathlib.Core.List.{List, [], _∷_, _++_, map, append-assoc, append-nil}
 use native.Mathlib.Omega.{arith}
 use native.Mathlib.Nat.{zero-add}
-use native.Mathlib.Numerals.{add-one}
-use borrow.Author.Tests.{lt-ltb, le-ltb, ltb-false, eq-eqb, ne-eqb}
-use lib.ListN.{length, getD, take, drop, set, length-append, length-drop, length-map, length-set, drop-of-length-le}
-use lib.Seq.{drop-cons, take-all}
-use lib.Dec.{eqb, ltb}
+use borrow.Author.Tests.{lt-ltb, le-ltb, ltb-false, eq-eqb}
+use lib.ListN.{length, getD, take, drop, set, length-append, length-drop, length-map, length-set}
+use lib.Seq.{take-all}
+use lib.Dec.{ltb}
 use Rattle.series.specs.Results.{Result, refused, value, _>>=_, refuse, after}
 use Rattle.forms.specs.Forms.{Listing}
 use Rattle.forms.specs.declared.Form.{Form}
@@ -20,14 +19,13 @@ use Rattle.text_rules.specs.Fields.{Text, COMMA}
 use Rattle.text_rules.specs.Rows.{writeRow, writeRows, rowOf, rowsOf}
 use Rattle.text_rules.specs.Names.{namesLine, headingOf}
 use Rattle.text_rules.specs.Letters.{letter}
-use Rattle.text_rules.specs.Text.{MOST_BYTES, MOST_LINES, writeTerms, writeHead, columnsBy, columns, sameNumbers, writesCodes}
+use Rattle.text_rules.specs.Text.{MOST_BYTES, MOST_LINES, writeTerms, writeHead, columnsBy, columns, writesCodes}
 use Rattle.text_rules.specs.declared.Heading.{Heading}
 use Rattle.text_rules.specs.Lists.{Plain}
 use Rattle.text_rules.specs.Calls.{evenly, lineCount, headAndLines, linesInto, writeInto, lengthOf}
 use Rattle.text_writing.specs.Parts.{Put, written, leftOut, Unwritten, FiveColumns}
 use Rattle.text_writing.specs.Tables.{tablesInto, bothWithin}
 use Rattle.series.proofs.ResultLaws.{never, value-is, Stepped, stepped, not-refused}
-use Rattle.text_rules.proofs.RoundTrip.{same-numbers}
 use Rattle.text_rules.proofs.RowLaws.{Each}
 use Rattle.text_rules.proofs.LengthLaws.{linesOf, lines-all, even-each, LinesKnown, lines-known}
 use Rattle.text_writing.proofs.PutLaws.{placed-onto, put-append, put-byte}
@@ -136,39 +134,6 @@ series-unwritten false codes accounts plain = record { few = omega arith; first 
 -- all five are written
 pub none-unwritten : (a b c d : List ℕ) → Unwritten 0 a b c d
 none-unwritten a b c d = record { few = omega arith; first = λ lt. absurd (omega arith); second = λ lt. absurd (omega arith); third = λ lt. absurd (omega arith) }
-
--- ---- two lists of numbers, compared
-
--- lists of different lengths are not the same
-pub differ-length : (ms ns : List ℕ) → (length ms ≡ length ns → ⊥) → false ≡ sameNumbers ms ns
-differ-length ms ns differ = by-cases (sameNumbers ms ns) refl
-  where
-    by-cases : (t : Bool) → sameNumbers ms ns ≡ t → false ≡ sameNumbers ms ns
-    by-cases true e = absurd (differ (ap length (same-numbers ms ns e)))
-    by-cases false e = sym e
-
--- the first i are the same, and the rest decides
-pub record SameTo (ms ns : List ℕ) (i : ℕ) : Type 0 where
-  pub rest : sameNumbers ms ns ≡ sameNumbers (drop i ms) (drop i ns)
-
-pub same-start : (ms ns : List ℕ) → SameTo ms ns 0
-same-start ms ns = record { rest = refl }
-
-module _ (ms ns : List ℕ) (same : length ms ≡ length ns) (i : ℕ) (so : SameTo ms ns i) where
-  module _ (lt : i < length ms) where
-    here : sameNumbers ms ns ≡ (eqb (getD ms i 0) (getD ns i 0) && sameNumbers (drop (suc i) ms) (drop (suc i) ns))
-    unfolding sameNumbers
-    here = let lt′ : i < length ns = omega arith in so .rest ∙ rw (drop-cons ms i 0 lt, drop-cons ns i 0 lt′) refl
-
-    pub differ-here : (getD ms i 0 ≡ getD ns i 0 → ⊥) → false ≡ sameNumbers ms ns
-    differ-here ne = sym (here ∙ rw (ne-eqb (getD ms i 0) (getD ns i 0) ne) refl)
-
-    pub same-here : getD ms i 0 ≡ getD ns i 0 → SameTo ms ns (i + 1)
-    same-here e = record { rest = here ∙ rw (eq-eqb (getD ms i 0) (getD ns i 0) e, add-one i) refl }
-
-  pub same-all : length ms ≤ i → true ≡ sameNumbers ms ns
-  unfolding sameNumbers
-  same-all le = let le′ : length ns ≤ i = omega arith in sym (so .rest ∙ rw (drop-of-length-le ms le, drop-of-length-le ns le′) refl)
 
 -- ---- what writing hands back, and the output that it leaves of old
 

@@ -8,6 +8,7 @@ use forms::Form;
 use series::Refusal;
 use series::Terms;
 use text_rules::Heading;
+use text_words::columns::same_numbers;
 use text_words::letters::letter_of;
 use text_words::names::heading_of;
 ghost use mathlib.Core.Path.{_≡_};
@@ -17,7 +18,7 @@ ghost use lib.ListN.{length};
 ghost use Rattle.series.specs.Results.{after};
 ghost use Rattle.series.specs.Outputs.{onto};
 ghost use Rattle.text_rules.specs.Rows.{writeRows, rowsOf};
-ghost use Rattle.text_rules.specs.Text.{writeHead, sameNumbers};
+ghost use Rattle.text_rules.specs.Text.{writeHead};
 ghost use Rattle.text_rules.specs.Calls.{writeInto, tableInto, noteInto, lengthOf};
 ghost use Rattle.text_writing.specs.Answers.{writingOf};
 ghost use Rattle.text_writing.specs.Parts.{Put, FiveColumns};
@@ -41,23 +42,6 @@ fn put_head(head: &mut [u8], coded: bool, form: Form, terms: Terms) -> usize
     let exercised = terms.exercised;
     let line3 = row::put_row(head, line2 + 2, &[exercised.0, terms.draw]);
     names::put_names(head, line3, heading_of(form, coded))
-}
-
-// Whether two lists hold the same numbers.
-fn same_numbers(first: &[u32], second: &[u32]) -> bool
-    ensures { λ r. ⌜ r ≡ sameNumbers (now (first .entry)) (now (second .entry)) ⌝ }
-{
-    if first.len() != second.len() {
-        return false;
-    }
-    let mut i = 0;
-    while i < first.len() {
-        if first[i] != second[i] {
-            return false;
-        }
-        i += 1;
-    }
-    true
 }
 
 // Writes the text of a series in a form, without its codes where every code is its account. A refusal writes nothing, and bytes past the text are kept.

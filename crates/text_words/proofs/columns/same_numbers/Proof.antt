@@ -3,9 +3,9 @@ use Prim.Native.Nat.{_-_}
 use native.Mathlib.Omega.{arith}
 use lib.ListN.{length}
 use borrow.Author.Needs.{needs}
-use Rattle.text_writing.proofs.WriteLaws.{differ-length, SameTo, same-start, differ-here, same-here, same-all}
-use Rattle.text_writing.proofs.same_numbers.Statement.{statement}
-use Rattle.text_writing.proofs.same_numbers.Tie as tie
+use Rattle.text_words.proofs.ColumnLaws.{differ-length, SameTo, same-start, differ-here, same-here, same-all}
+use Rattle.text_words.proofs.columns.same_numbers.Statement.{statement}
+use Rattle.text_words.proofs.columns.same_numbers.Tie as tie
 
 abbrev Inv-loop : tie.InvT-loop
 Inv-loop first second i₀ i = SameTo first second i
