@@ -22,7 +22,7 @@ use Rattle.forms.specs.Forms.{differences, inForm, listVerdictIn, ListingCall}
 use Rattle.forms.specs.declared.Form.{Form}
 use Rattle.forms.proofs.LastRows.{long-call}
 
--- in a form: shorts as they are, and the verdict on the shorts of last numbers
+-- with shorts a result stands as it is
 pub in-shorts : {A : Type 0} (r : Result A) → inForm Form.Shorts r ≡ r
 in-shorts (refused n) = refl
 in-shorts (value a) = refl
