@@ -40,7 +40,7 @@ pub makers-above-refused : map outcome makers-above ≡ replicate 4 (limited (re
 unfolding outcome makers-above
 makers-above-refused = refl
 
--- every count the largest; 17 and 18; as many closing purchases as there may be, and one more; closing sales that count as opening ones; closing purchases on the final trading day; closing sales below the remaining long, and beyond it beside other trades; a market-maker who purchases more than an investor could close
+-- every count the largest; 17 and 18; as many closing purchases as there may be, and one more; closing sales that count as opening ones; closing purchases on the final trading day; closing sales below the remaining long, and beyond it beside other trades; a market-maker who purchases more than an investor could close, and one with a long, a short and a limit above 0 on both kinds of day
 pub days : List Activity
 days =
     ofInvestor Ordinary (investorOf most most most most most most most) ∷
@@ -67,6 +67,8 @@ days =
     ofMaker Final (marketMakerOf 0 0 5 0) ∷
     ofMaker Ordinary (marketMakerOf 1 2 3 4) ∷
     ofMaker Final (marketMakerOf 1 2 3 4) ∷
+    ofMaker Ordinary (marketMakerOf 9 2 3 4) ∷
+    ofMaker Final (marketMakerOf 9 2 3 4) ∷
     []
 
 pub days-known : map outcome days ≡
@@ -94,6 +96,8 @@ pub days-known : map outcome days ≡
     limited (value 5) ∷
     limited (value 4) ∷
     limited (value 0) ∷
+    limited (value 12) ∷
+    limited (value 6) ∷
     []
 unfolding outcome days
 days-known = refl

@@ -1,17 +1,17 @@
 -- The parts of a list that the code lends, from element a on and from the top up to element e, and the positions of such a part.
-use Prim.Native.Nat.{ℕ, suc, _+_, _-_, _≤_, _<_}
+use Prim.Native.Nat.{ℕ, suc, _+_, _-_, _≤_, _<_, min}
 use mathlib.Core.Path.{_≡_, sym, ap, _∙_}
 use mathlib.Core.List.{List, [], _++_, append-nil}
 use native.Mathlib.Omega.{arith}
 use native.Mathlib.Nat.{add-sub-of-le}
 use native.Mathlib.Decide.{decLt}
-use lib.ListN.{length, getD, take, drop, length-take, length-drop, length-append, List·getD-append}
+use lib.ListN.{length, getD, take, drop, length-take, length-drop, length-append, take-append-drop, List·getD-append}
 use lib.Seq.{take-all, take-add, drop-drop, drop-length, getD-drop, getD-append-add, length-take-le, getD-take, take-take}
 use borrow.Rule.Slice.PartMut.{putMid, postOf}
 use Rattle.series.specs.Places.{total, before, last}
 use Rattle.series.proofs.SumLaws.{total-append}
 use Rattle.series.proofs.PlaceLaws.{before-suc, before-mono}
-use Rattle.allocation.specs.Stretch.{overlap, Grown, Room}
+use Rattle.allocation.specs.Stretch.{overlap, Grown, Small}
 use Rattle.allocation.proofs.StretchLaws.{last-is, overlap-beyond}
 
 -- a part from a to the end is the list without its first a elements
@@ -78,15 +78,18 @@ before-take hs e j h = ap total (take-take j e hs h)
 pub last-take : (hs : List ℕ) (e j : ℕ) → j < e → last (take e hs) j ≡ last hs j
 last-take hs e j h = omega (arith, last-is (take e hs) j, last-is hs j, before-take hs e j (omega arith), getD-take e hs j 0 h)
 
--- the part of the amounts from the top has room for the part of the list
-pub room-top : (hs out : List ℕ) (e : ℕ) → Room hs out → Room (take e hs) (take e out)
-room-top hs out e r =
+-- a part of a small list, and of its amounts
+pub small-part : (hs out : List ℕ) (a n k most : ℕ) → Small hs out k → k ≤ most → Small (take n (drop a hs)) (take n (drop a out)) most
+small-part hs out a n k most s l =
+    let size : length (take n (drop a hs)) ≡ min n (length hs - a) = length-take n (drop a hs) ∙ ap (min n) (length-drop a hs) in
     record {
-      lengths = omega (arith, length-take e out, length-take e hs, r .lengths);
-      room = λ j k.
-          let less : j < e = omega (arith, length-take e hs) in
-          omega (arith, getD-take e hs j 0 less, getD-take e out j 0 less, r .room j (omega (arith, length-take e hs)));
+      lengths = omega (arith, size, length-take n (drop a out), length-drop a out, s .lengths);
+      list = omega (arith, s .list, parts hs a, parts (drop a hs) n);
+      amounts = λ j h. omega (arith, size, getD-take n (drop a out) j 0 (omega (arith, size)), getD-drop a out j 0, s .amounts (a + j) (omega (arith, size)));
     }
+  where
+    parts : (xs : List ℕ) (i : ℕ) → total (take i xs) + total (drop i xs) ≡ total xs
+    parts xs i = sym (total-append (take i xs) (drop i xs)) ∙ ap total (take-append-drop i xs)
 
 -- what the amounts of the part from the top grew by, where the contracts end within it, said of the whole list
 pub grown-top : (hs old new : List ℕ) (e x : ℕ) → e ≤ length hs → length old ≡ length hs → x ≤ before hs e → Grown (take e hs) (take e old) new 0 x → Grown hs old (new ++ drop e old) 0 x

@@ -1,5 +1,5 @@
 -- A run round the wheel as two walks, each over a part of the list: to the end, and from the top.
-use Prim.Native.Nat.{ℕ, suc, _+_, _-_, _≤_, _<_, min, max}
+use Prim.Native.Nat.{ℕ, suc, _+_, _-_, _*_, _≤_, _<_, min, max}
 use mathlib.Core.Path.{_≡_, sym, ap, ap₂, _∙_}
 use mathlib.Core.List.{List, _++_}
 use native.Mathlib.Omega.{arith}
@@ -8,14 +8,15 @@ use native.Mathlib.Decide.{decLe, decLt}
 use lib.ListN.{length, getD, take, drop, set, length-drop, replicate, length-replicate, getD-replicate}
 use lib.Seq.{getD-drop, getD-take, length-take-le, ext-getD, drop-cons, set-split}
 use borrow.Rule.Slice.PartMut.{putMid}
+use Rattle.series.specs.Series.{MOST_CONTRACTS}
 use Rattle.series.specs.Places.{total, before, last, steps, run, marked, amounts, OnWheel}
 use Rattle.series.specs.Lottery.{lottery}
 use Rattle.series.proofs.SumLaws.{total-term}
 use Rattle.series.proofs.PlaceLaws.{steps-plain, steps-past, before-all, last-total, amount-at, length-amounts, run-plain, run-past, upFrom, marked-append, marked-upFrom}
+use Rattle.judging.specs.Judged.{JudgedSeries}
 use Rattle.allocation.specs.declared.places.Stop.{Stop}
 use Rattle.allocation.specs.declared.places.Cursor.{Cursor}
-use Rattle.allocation.specs.Stretch.{overlap, Ends, Grown, OnList, Stands, Assignable, Assigned, Small, Sized, Room, placeOf}
-use Rattle.allocation.specs.Lottery.{LotteryCall}
+use Rattle.allocation.specs.Stretch.{overlap, Ends, Grown, Small, OnList, Stands, Ahead, Assigned, placeOf}
 use Rattle.allocation.proofs.StretchLaws.{last-is, next-before, Walk, walk-start, walk-inside, growing-start, grown-inside}
 use Rattle.allocation.proofs.PartLaws.{before-drop, before-take, part-is, put-is, grown-part, grown-top}
 
@@ -128,34 +129,24 @@ stands-first hs place s on e =
     let in-list : s .at < length hs = ends-inside hs (0 + (place - 1)) s e (omega (arith, on .low, on .high)) in
     record { on = record { position = in-list; contract = e .inside in-list .0 }; place = omega (arith, e .reached, e .inside in-list .1, on .low) }
 
--- the part of the amounts has room for the part of the list
-pub room-part : (hs out : List ℕ) (a : ℕ) → Small hs out → a ≤ length hs → Room (take (length hs - a) (drop a hs)) (take (length out - a) (drop a out))
-room-part hs out a s h =
-    rw (part-is hs a, part-is out a)
-    (record {
-      lengths = omega (arith, length-drop a hs, length-drop a out, s .lengths);
-      room = λ j k.
-          let inside : a + j < length hs = omega (arith, length-drop a hs) in
-          omega (arith, getD-drop a hs j 0, getD-drop a out j 0, s .amounts (a + j) inside, total-term hs (a + j) inside, s .list);
-    })
-
 overlap-most : (b h lo hi : ℕ) → overlap b (b + h) lo hi ≤ h
 unfolding overlap
 overlap-most b h lo hi = omega arith
 
--- the amounts still have room
-room-again : (hs out mid : List ℕ) (lo hi : ℕ) → Small hs out → Grown hs out mid lo hi → Room hs mid
+-- amounts that grew
+small-grown : (hs out mid : List ℕ) (lo hi most : ℕ) → Small hs out most → Grown hs out mid lo hi → Small hs mid (most + MOST_CONTRACTS)
 unfolding last
-room-again hs out mid lo hi s g =
+small-grown hs out mid lo hi most s g =
     record {
-      lengths = omega (arith, g .same-length, s .lengths);
-      room = λ j k. omega (arith, g .grown j k, s .amounts j k, total-term hs j k, s .list, overlap-most (before hs j) (getD hs j 0) lo hi);
+      lengths = g .same-length ∙ s .lengths;
+      list = s .list;
+      amounts = λ j k. omega (arith, g .grown j k, s .amounts j k, total-term hs j k, s .list, overlap-most (before hs j) (getD hs j 0) lo hi);
     }
 
 -- what the part's amounts grew by, said of all amounts with the part put back
-grown-put : (hs out new : List ℕ) (a lo hi : ℕ) → Small hs out → a ≤ length hs → Grown (take (length hs - a) (drop a hs)) (take (length out - a) (drop a out)) new lo hi → Grown hs out (putMid a (length out - a) out new) (before hs a + lo) (before hs a + hi)
-grown-put hs out new a lo hi s h g =
-    rw (put-is out new a (omega (arith, s .lengths))) (grown-part hs out new a lo hi h (s .lengths) (rw (part-is hs a, part-is out a) at g))
+grown-put : (hs out new : List ℕ) (a lo hi : ℕ) → length out ≡ length hs → a ≤ length hs → Grown (take (length hs - a) (drop a hs)) (take (length out - a) (drop a out)) new lo hi → Grown hs out (putMid a (length out - a) out new) (before hs a + lo) (before hs a + hi)
+grown-put hs out new a lo hi l h g =
+    rw (put-is out new a (omega arith)) (grown-part hs out new a lo hi h l (rw (part-is hs a, part-is out a) at g))
 
 overlap-zero : (b e : ℕ) → overlap b e 0 0 ≡ 0
 unfolding overlap
@@ -184,7 +175,7 @@ module _ (hs out : List ℕ) (q n : ℕ) (below : q < total hs) (most : n ≤ to
       }
 
 -- One run of n contracts from the cursor: the walk over the part that the cursor stands in, and the one from the top.
-module _ (hs out new : List ℕ) (c : Cursor) (n : ℕ) (s : Stop) (asked : Assignable hs out c n) (e : Ends (take (length hs - c .at) (drop (c .at) hs)) (c .passed .0 + n) s) (g : Grown (take (length hs - c .at) (drop (c .at) hs)) (take (length out - c .at) (drop (c .at) out)) new (c .passed .0) (c .passed .0 + n)) where
+module _ (hs out new : List ℕ) (c : Cursor) (n : ℕ) (s : Stop) (small : Small hs out MOST_CONTRACTS) (ahead : Ahead hs c n) (e : Ends (take (length hs - c .at) (drop (c .at) hs)) (c .passed .0 + n) s) (g : Grown (take (length hs - c .at) (drop (c .at) hs)) (take (length out - c .at) (drop (c .at) out)) new (c .passed .0) (c .passed .0 + n)) where
   -- the first contract's place, less 1
   abbrev q : ℕ
   q = before hs (c .at) + c .passed .0
@@ -194,7 +185,7 @@ module _ (hs out new : List ℕ) (c : Cursor) (n : ℕ) (s : Stop) (asked : Assi
   mid = putMid (c .at) (length out - c .at) out new
 
   on : OnList hs c
-  on = asked .ahead .on
+  on = ahead .on
 
   below : q < total hs
   below = on-wheel hs c on
@@ -203,25 +194,25 @@ module _ (hs out new : List ℕ) (c : Cursor) (n : ℕ) (s : Stop) (asked : Assi
   ends = part-ends hs (c .at) (c .passed .0 + n) s e
 
   grown : Grown hs out mid q (q + n)
-  grown = rw (← add-assoc (before hs (c .at)) (c .passed .0) n) at (grown-put hs out new (c .at) (c .passed .0) (c .passed .0 + n) (asked .small) (omega (arith, on .position)) g)
+  grown = rw (← add-assoc (before hs (c .at)) (c .passed .0) n) at (grown-put hs out new (c .at) (c .passed .0) (c .passed .0 + n) (small .lengths) (omega (arith, on .position)) g)
 
-  pub run-room : Room hs mid
-  run-room = room-again hs out mid q (q + n) (asked .small) grown
+  pub run-small : Small hs mid (2 * MOST_CONTRACTS)
+  run-small = small-grown hs out mid q (q + n) MOST_CONTRACTS small grown
 
   pub run-part : s .at < length hs - c .at → (Stands hs n (placeOf hs c) (record { at = c .at + s .at; passed = s .passed })) × Assigned hs out mid (run (total hs) n (placeOf hs c))
   unfolding placeOf
   run-part h =
       let stands = stands-part hs c n s on ends h in (
         stands,
-        assigned-part hs out q n below (asked .ahead .most) mid (omega (arith, on-wheel hs _ (stands .on), reached-whole hs c n s on ends, ends .inside (omega (arith, length-drop (c .at) hs)) .1)) grown,
+        assigned-part hs out q n below (ahead .most) mid (omega (arith, on-wheel hs _ (stands .on), reached-whole hs c n s on ends, ends .inside (omega (arith, length-drop (c .at) hs)) .1)) grown,
       )
 
   pub run-top : length hs - c .at ≤ s .at → (top : List ℕ) (t : Stop) → Ends (take (c .at + 1) hs) (0 + s .left .0) t → Grown (take (c .at + 1) hs) (take (c .at + 1) mid) top 0 (0 + s .left .0) → (Stands hs n (placeOf hs c) (record { at = t .at; passed = t .passed })) × Assigned hs out (top ++ drop (c .at + 1) mid) (run (total hs) n (placeOf hs c))
   unfolding placeOf
   run-top h top t e2 g2 =
-      let most = asked .ahead .most in
+      let most = ahead .most in
       let whole : Grown hs mid (top ++ drop (c .at + 1) mid) 0 (0 + s .left .0) =
-      grown-top hs mid top (c .at + 1) (0 + s .left .0) (omega (arith, on .position)) (grown .same-length ∙ asked .small .lengths) (omega (arith, left-short hs c n s on ends most h)) g2 in (
+      grown-top hs mid top (c .at + 1) (0 + s .left .0) (omega (arith, on .position)) (grown .same-length ∙ small .lengths) (omega (arith, left-short hs c n s on ends most h)) g2 in (
         stands-top hs c n s on ends most h t e2,
         assigned-top hs out q n below most mid (top ++ drop (c .at + 1) mid) (s .left .0) (left-past hs c n s on ends h .0) grown whole,
       )
@@ -234,22 +225,21 @@ assigned-amounts hs out new ms l a =
     let inside : j < length hs = omega (arith, a .same-length, length-replicate {A = ℕ} (length out) 0) in
     omega (arith, a .grown j inside, amount-at hs ms j inside, getD-replicate {A = ℕ} (length out) j 0 0 (omega arith)))
 
-pub small-zero : (hs out : List ℕ) → Sized hs out → Small hs (replicate (length out) 0)
-small-zero hs out l =
-    record {
-      lengths = length-replicate {A = ℕ} (length out) 0 ∙ l .lengths;
-      list = l .list;
-      amounts = λ j h. omega (arith, getD-replicate {A = ℕ} (length out) j 0 0 (omega (arith, l .lengths)));
-    }
-
 -- one run from a starting place
-module _ (hs out cleared : List ℕ) (S p : ℕ) (c : Cursor) (call : LotteryCall hs out S p) (stands : Stands hs 0 p c) (ec : cleared ≡ replicate (length out) 0) where
-  pub lottery-ready : Assignable hs cleared c S
-  lottery-ready = rw ec (record { small = small-zero hs out (call .sized); ahead = record { on = stands .on; most = call .most } })
+module _ (hs out cleared : List ℕ) (S p : ℕ) (c : Cursor) (judged : JudgedSeries hs (total hs) S out) (stands : Stands hs 0 p c) (ec : cleared ≡ replicate (length out) 0) where
+  pub lottery-ready : Small hs cleared MOST_CONTRACTS × Ahead hs c S
+  lottery-ready = (
+    record {
+      lengths = rw ec (length-replicate {A = ℕ} (length out) 0 ∙ judged .room);
+      list = judged .small;
+      amounts = λ j h. rw ec (omega (arith, getD-replicate {A = ℕ} (length out) j 0 0 (omega (arith, judged .room))));
+    },
+    record { on = stands .on; most = judged .most },
+  )
 
   pub lottery-done : (new : List ℕ) → Assigned hs cleared new (run (total hs) S (placeOf hs c)) → new ≡ lottery hs S p
   unfolding lottery steps
-  lottery-done new a = assigned-amounts hs out new (run (total hs) S p) (call .sized .lengths) (rw (ec, stands .place) at a)
+  lottery-done new a = assigned-amounts hs out new (run (total hs) S p) (judged .room) (rw (ec, stands .place) at a)
 
 -- A run that ends in the position it begins in.
 module _ (hs : List ℕ) (c : Cursor) (n : ℕ) (on : OnList hs c) (inside : n < getD hs (c .at) 0 - c .passed .0) where
@@ -273,17 +263,17 @@ module _ (hs : List ℕ) (c : Cursor) (n : ℕ) (on : OnList hs c) (inside : n <
       rw add-zero at
       (stands-part hs c n (record { at = 0; passed = record { 0 = passed + n }; left = record { 0 = 0 } }) on (walk-inside (drop a hs) passed (passed + n) 0 passed n walk-here some-here (omega (arith, first-here))) (omega (arith, on .position)))
 
-  pub assigned-here : (out : List ℕ) → Small hs out → n ≤ total hs → Assigned hs out (set out a (getD out a 0 + n)) (run (total hs) n (placeOf hs c))
+  pub assigned-here : (out : List ℕ) → length out ≡ length hs → n ≤ total hs → Assigned hs out (set out a (getD out a 0 + n)) (run (total hs) n (placeOf hs c))
   unfolding placeOf
-  assigned-here out small most =
-      let held : a < length out = omega (arith, on .position, small .lengths) in
+  assigned-here out l most =
+      let held : a < length out = omega (arith, on .position) in
       let v : ℕ = getD out a 0 + n in
       let first : getD (drop a out) 0 0 ≡ getD out a 0 = getD-drop a out 0 0 ∙ ap (λ k. getD out k 0) (add-zero a) in
       let put : take a out ++ set (drop a out) 0 v ≡ set out a v = ap (λ zs. take a out ++ set zs 0 v) (drop-cons out a 0 held) ∙ sym (set-split out a v held) in
       let part : Grown (drop a hs) (drop a out) (set (drop a out) 0 (getD (drop a out) 0 0 + n)) passed (passed + n) =
       grown-inside (drop a hs) (drop a out) (drop a out) passed (passed + n) 0 passed n walk-here (growing-start (drop a hs) (drop a out) passed (passed + n)) some-here (omega (arith, length-drop a out)) (omega (arith, first-here)) in
       let whole : Grown hs out (take a out ++ set (drop a out) 0 v) (before hs a + passed) (before hs a + (passed + n)) =
-      grown-part hs out (set (drop a out) 0 v) a passed (passed + n) (omega (arith, on .position)) (small .lengths) (rw first at part) in
+      grown-part hs out (set (drop a out) 0 v) a passed (passed + n) (omega (arith, on .position)) l (rw first at part) in
       assigned-part hs out (before hs a + passed) n (on-wheel hs c on) most (set out a v)
       (omega (arith, inside, on .contract, last-is hs a, last-total hs a (on .position)))
       (rw (put, ← add-assoc (before hs a) passed n) at whole)

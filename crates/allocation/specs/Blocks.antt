@@ -4,10 +4,10 @@ use mathlib.Core.Path.{_≡_}
 use mathlib.Core.List.{List}
 use lib.ListN.{length, getD}
 use Rattle.series.specs.Series.{MOST_CONTRACTS}
-use Rattle.series.specs.Places.{total, before, last, marked, OnWheel}
+use Rattle.series.specs.Places.{total, before, last, marked}
 use Rattle.series.specs.Wheel.{ONE, marks}
 use Rattle.allocation.specs.Millionths.{millionths, Carried}
-use Rattle.allocation.specs.Stretch.{Sized, OnList, Stands, Small, placeOf}
+use Rattle.allocation.specs.Stretch.{OnList, Stands, placeOf}
 use Rattle.allocation.specs.declared.wheel.Wheel.{Wheel}
 
 -- the next skip in millionths: skip interval plus reserve
@@ -35,23 +35,13 @@ marksFrom hs w blocks I l = marks (total hs) I (millionths (w .interval)) l (blo
 -- at least one block, each within the list; and the amounts stay small
 pub record BlocksFit (hs out : List ℕ) (w : Wheel) (blocks I l : ℕ) : Type 0 where
   pub ready : Ready hs w
-  pub small : Small hs out
+  pub lengths : length out ≡ length hs
   pub some : 0 < blocks
   pub whole : 1 < blocks → I ≤ total hs
   pub end : l ≤ total hs
   pub grown : (j : ℕ) → j < length hs → getD out j 0 + marked (before hs j) (last hs j) (marksFrom hs w blocks I l) ≤ MOST_CONTRACTS
 
--- an increment of 1 to 1,000, and an exercised quantity of 1 to 10,000,000
-pub record Increment (I S : ℕ) : Type 0 where
+-- an increment of 1 to 1,000
+pub record Increment (I : ℕ) : Type 0 where
   pub some : 0 < I
   pub most : I ≤ 1000
-  pub exercised-some : 0 < S
-  pub exercised-most : S ≤ MOST_CONTRACTS
-
--- S of T contracts, in blocks of I from place p on, which is one unless S equals T
-pub record WheelCall (hs out : List ℕ) (T S p I : ℕ) : Type 0 where
-  pub sized : Sized hs out
-  pub sum : T ≡ total hs
-  pub most : S ≤ T
-  pub increment : Increment I S
-  pub start : (S ≡ T → ⊥) → OnWheel T p

@@ -1,5 +1,4 @@
 -- What the functions of src/ ask and promise.
 pub mod Millionths
 pub mod Stretch
-pub mod Lottery
 pub mod Blocks

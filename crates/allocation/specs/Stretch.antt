@@ -1,5 +1,5 @@
 -- What the functions of places ask and promise: stretches of contracts without a wrap, and cursors on the wheel.
-use Prim.Native.Nat.{ℕ, suc, _+_, _-_, _^_, _≤_, _<_, min, max}
+use Prim.Native.Nat.{ℕ, suc, _+_, _-_, _≤_, _<_, min, max}
 use mathlib.Core.Path.{_≡_}
 use mathlib.Core.List.{List}
 use lib.ListN.{length, getD}
@@ -24,10 +24,11 @@ pub record Grown (hs old new : List ℕ) (lo hi : ℕ) : Type 0 where
   pub same-length : length new ≡ length old
   pub grown : (j : ℕ) → j < length hs → getD new j 0 ≡ getD old j 0 + overlap (before hs j) (last hs j) lo hi
 
--- an amount for each position, each with room for its shorts
-pub record Room (hs out : List ℕ) : Type 0 where
+-- a list of at most 10,000,000 contracts, and for each position an amount of at most so many
+pub record Small (hs out : List ℕ) (most : ℕ) : Type 0 where
   pub lengths : length out ≡ length hs
-  pub room : (j : ℕ) → j < length hs → getD out j 0 + getD hs j 0 < 2 ^ 32
+  pub list : total hs ≤ MOST_CONTRACTS
+  pub amounts : (j : ℕ) → j < length hs → getD out j 0 ≤ most
 
 -- the place of a cursor
 unfoldable pub placeOf : List ℕ → Cursor → ℕ
@@ -37,12 +38,6 @@ placeOf hs c = suc (before hs (c .at) + c .passed .0)
 pub record OnList (hs : List ℕ) (c : Cursor) : Type 0 where
   pub position : c .at < length hs
   pub contract : c .passed .0 < getD hs (c .at) 0
-
--- a list of at most 10,000,000 contracts, and an amount of at most as many for each position
-pub record Small (hs out : List ℕ) : Type 0 where
-  pub lengths : length out ≡ length hs
-  pub list : total hs ≤ MOST_CONTRACTS
-  pub amounts : (j : ℕ) → j < length hs → getD out j 0 ≤ MOST_CONTRACTS
 
 -- each amount grew by the marks ms on its position's contracts
 pub record Assigned (hs old new ms : List ℕ) : Type 0 where
@@ -58,13 +53,3 @@ pub record Stands (hs : List ℕ) (n p : ℕ) (c : Cursor) : Type 0 where
 pub record Ahead (hs : List ℕ) (c : Cursor) (n : ℕ) : Type 0 where
   pub on : OnList hs c
   pub most : n ≤ total hs
-
--- the same, with small amounts to assign them to
-pub record Assignable (hs out : List ℕ) (c : Cursor) (n : ℕ) : Type 0 where
-  pub small : Small hs out
-  pub ahead : Ahead hs c n
-
--- a list of at most 10,000,000 contracts, with an amount for each position
-pub record Sized (hs out : List ℕ) : Type 0 where
-  pub lengths : length out ≡ length hs
-  pub list : total hs ≤ MOST_CONTRACTS

@@ -10,22 +10,24 @@ use series::Answer;
 use series::Contracts;
 use series::Method;
 use series::Terms;
+use series::terms_of;
 use starts::StartBy;
 use starts::answer_for;
 use starts::method_for;
 use starts::start_by;
 ghost use Prim.Native.Nat.{ℕ};
 ghost use mathlib.Core.List.{List};
-ghost use lib.ListN.{length};
 ghost use Rattle.series.specs.Answers.{answerOf};
 ghost use Rattle.series.specs.Fair.{AllocatingCall};
+ghost use Rattle.series.specs.Series.{Given};
 ghost use Rattle.series.specs.declared.Method.{Method as Method·};
+ghost use Rattle.series.specs.declared.Terms.{Terms as Terms·};
 ghost use Rattle.starts.specs.Starts.{methodFor};
 
 // The assignment increment.
 const INCREMENT: u32 = 25;
 
-// The call by the wheel.
+// The call by the wheel, by terms that have this S and draw.
 fn allocate_wheel(
     exercised: Contracts,
     draw: u32,
@@ -34,13 +36,9 @@ fn allocate_wheel(
     shorts: &[u32],
     amounts: &mut [u32],
 ) -> Answer
-    ensures { λ r. ⌜ AllocatingCall (record { terms = record { method = Method·.Wheel; exercised = exercised; draw = draw }; codes = now (codes .entry); accounts = now (accounts .entry); shorts = now (shorts .entry) }) (answerOf r) (now (amounts .entry)) (now (amounts .exit)) ⌝ }
+    ensures { λ r. ⌜ ((t : Terms·) → Given t Method·.Wheel (exercised .0) draw → AllocatingCall (record { terms = t; codes = now (codes .entry); accounts = now (accounts .entry); shorts = now (shorts .entry) }) (answerOf r) (now (amounts .entry)) (now (amounts .exit))) ⌝ }
 {
-    let terms = Terms {
-        method: Method::Wheel,
-        exercised,
-        draw,
-    };
+    let terms = terms_of(Method::Wheel, exercised, draw);
     match judging::judge(terms, codes, accounts, shorts, amounts.len()) {
         Judged::Refused(refusal) => Answer::Refused(refusal),
         Judged::Accepted(total) => {
@@ -58,7 +56,7 @@ fn allocate_wheel(
     }
 }
 
-// The call by L or R, whatever the codes.
+// The call by L or R, by terms that have this S and draw, whatever the codes.
 fn allocate_started(
     by: StartBy,
     exercised: Contracts,
@@ -67,13 +65,9 @@ fn allocate_started(
     shorts: &[u32],
     amounts: &mut [u32],
 ) -> Answer
-    ensures { λ r. ⌜ ((codes : List ℕ) → AllocatingCall (record { terms = record { method = methodFor by; exercised = exercised; draw = draw }; codes = codes; accounts = now (accounts .entry); shorts = now (shorts .entry) }) (answerOf r) (now (amounts .entry)) (now (amounts .exit))) ⌝ }
+    ensures { λ r. ⌜ ((t : Terms·) (codes : List ℕ) → Given t (methodFor by) (exercised .0) draw → AllocatingCall (record { terms = t; codes = codes; accounts = now (accounts .entry); shorts = now (shorts .entry) }) (answerOf r) (now (amounts .entry)) (now (amounts .exit))) ⌝ }
 {
-    let terms = Terms {
-        method: method_for(by),
-        exercised,
-        draw,
-    };
+    let terms = terms_of(method_for(by), exercised, draw);
     match judging::judge_uncoded(terms, accounts, shorts, amounts.len()) {
         Judged::Refused(refusal) => Answer::Refused(refusal),
         Judged::Accepted(total) => {

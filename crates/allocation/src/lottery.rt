@@ -8,11 +8,14 @@ use series::Place;
 use starts::Start;
 use starts::StartBy;
 ghost use mathlib.Core.Path.{_≡_};
+ghost use mathlib.Core.Bool.{false};
+ghost use lib.ListN.{length};
 ghost use Prim.Native.Nat.{_≤_, _<_};
 ghost use Rattle.series.specs.Series.{MOST_CONTRACTS};
-ghost use Rattle.series.specs.Lottery.{lottery, lotteryAmounts, startUsed};
+ghost use Rattle.series.specs.Places.{total as totalOf, OnWheel};
+ghost use Rattle.series.specs.Lottery.{lottery, unstarted, lotteryAmounts, startUsed};
 ghost use Rattle.starts.specs.Starts.{placeBy, Leads, startOf};
-ghost use Rattle.allocation.specs.Lottery.{LotteryCall, DrawCall};
+ghost use Rattle.judging.specs.Judged.{JudgedSeries};
 
 // The starting place that a draw leads to.
 fn starting_place(by: StartBy, total: Contracts, draw: u32) -> Place
@@ -29,7 +32,8 @@ fn starting_place(by: StartBy, total: Contracts, draw: u32) -> Place
 
 // Assigns S contracts from the starting place on.
 fn assign(shorts: &[u32], exercised: Contracts, start: Place, amounts: &mut [u32])
-    requires { ⌜ LotteryCall (now shorts) (now amounts) (exercised .0) (start .0) ⌝ }
+    requires { ⌜ JudgedSeries (now shorts) (totalOf (now shorts)) (exercised .0) (now amounts) ⌝ }
+    requires { ⌜ OnWheel (totalOf (now shorts)) (start .0) ⌝ }
     ensures { λ _. ⌜ now (amounts .exit) ≡ lottery (now (shorts .entry)) (exercised .0) (start .0) ⌝ }
 {
     clear(amounts);
@@ -46,7 +50,8 @@ pub fn assign_by_draw(
     draw: u32,
     amounts: &mut [u32],
 ) -> Start
-    requires { ⌜ DrawCall by (now shorts) (now amounts) (total .0) (exercised .0) draw ⌝ }
+    requires { ⌜ JudgedSeries (now shorts) (total .0) (exercised .0) (now amounts) ⌝ }
+    requires { ⌜ (unstarted (total .0) (length (now shorts)) (exercised .0) ≡ false → Leads by draw) ⌝ }
     ensures { λ r. ⌜ startOf r ≡ startUsed (now (shorts .entry)) (exercised .0) (placeBy by (total .0) draw) ⌝ }
     ensures { λ _. ⌜ now (amounts .exit) ≡ lotteryAmounts (now (shorts .entry)) (exercised .0) (placeBy by (total .0) draw) ⌝ }
 {

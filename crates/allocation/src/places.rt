@@ -1,10 +1,11 @@
 // Walks over the contracts of a list, a position at a time.
 use series::Contracts;
 use series::Place;
-ghost use Prim.Native.Nat.{_+_, _≤_};
+ghost use Prim.Native.Nat.{_+_, _*_, _≤_};
+ghost use Rattle.series.specs.Series.{MOST_CONTRACTS};
 ghost use Rattle.series.specs.Places.{total, run, OnWheel};
 ghost use lib.ListN.{getD};
-ghost use Rattle.allocation.specs.Stretch.{Ends, Grown, Room, Stands, Ahead, Assignable, Assigned, placeOf};
+ghost use Rattle.allocation.specs.Stretch.{Ends, Grown, Small, Stands, Ahead, Assigned, placeOf};
 
 // Where a walk ends: in the position at, of which so many contracts are passed; or past the list, with so many left.
 pub struct Stop {
@@ -15,7 +16,7 @@ pub struct Stop {
 
 // Assigns count contracts one after the other, after the first passed ones of the list.
 pub fn hand(shorts: &[u32], amounts: &mut [u32], passed: Contracts, count: Contracts) -> Stop
-    requires { ⌜ Room (now shorts) (now amounts) ⌝ }
+    requires { ⌜ Small (now shorts) (now amounts) (2 * MOST_CONTRACTS) ⌝ }
     requires { ⌜ passed .0 ≤ getD (now shorts) 0 0 ⌝ }
     ensures { λ r. ⌜ Ends (now (shorts .entry)) (passed .0 + count .0) r ⌝ }
     ensures { λ r. ⌜ Grown (now (shorts .entry)) (now (amounts .entry)) (now (amounts .exit)) (passed .0) (passed .0 + count .0) ⌝ }
@@ -94,7 +95,8 @@ pub fn seek(shorts: &[u32], place: Place) -> Cursor
 
 // Assigns count contracts from the cursor on: to the end of the list, and then in the part from the top, up to the position it began in.
 fn assign_round(shorts: &[u32], amounts: &mut [u32], cursor: Cursor, count: Contracts) -> Cursor
-    requires { ⌜ Assignable (now shorts) (now amounts) cursor (count .0) ⌝ }
+    requires { ⌜ Small (now shorts) (now amounts) MOST_CONTRACTS ⌝ }
+    requires { ⌜ Ahead (now shorts) cursor (count .0) ⌝ }
     ensures { λ r. ⌜ Stands (now (shorts .entry)) (count .0) (placeOf (now (shorts .entry)) cursor) r ⌝ }
     ensures { λ r. ⌜ Assigned (now (shorts .entry)) (now (amounts .entry)) (now (amounts .exit)) (run (total (now (shorts .entry))) (count .0) (placeOf (now (shorts .entry)) cursor)) ⌝ }
 {
@@ -118,7 +120,8 @@ fn assign_round(shorts: &[u32], amounts: &mut [u32], cursor: Cursor, count: Cont
 
 // Assigns count contracts from the cursor on; the cursor after them. Most runs end in the position they begin in.
 pub fn assign_run(shorts: &[u32], amounts: &mut [u32], cursor: Cursor, count: Contracts) -> Cursor
-    requires { ⌜ Assignable (now shorts) (now amounts) cursor (count .0) ⌝ }
+    requires { ⌜ Small (now shorts) (now amounts) MOST_CONTRACTS ⌝ }
+    requires { ⌜ Ahead (now shorts) cursor (count .0) ⌝ }
     ensures { λ r. ⌜ Stands (now (shorts .entry)) (count .0) (placeOf (now (shorts .entry)) cursor) r ⌝ }
     ensures { λ r. ⌜ Assigned (now (shorts .entry)) (now (amounts .entry)) (now (amounts .exit)) (run (total (now (shorts .entry))) (count .0) (placeOf (now (shorts .entry)) cursor)) ⌝ }
 {

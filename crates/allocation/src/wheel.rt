@@ -9,10 +9,13 @@ use crate::places::skip_run;
 use series::Contracts;
 use series::Place;
 ghost use mathlib.Core.Path.{_≡_};
-ghost use Prim.Native.Nat.{_-_, _*_};
+ghost use Prim.Native.Nat.{_-_, _*_, _≤_, _<_};
+ghost use Rattle.series.specs.Series.{MOST_CONTRACTS};
+ghost use Rattle.series.specs.Places.{OnWheel};
 ghost use Rattle.series.specs.Wheel.{wheel, blocks as blocksOf, blocksUsed};
+ghost use Rattle.judging.specs.Judged.{JudgedSeries};
 ghost use Rattle.allocation.specs.Stretch.{Assigned};
-ghost use Rattle.allocation.specs.Blocks.{Increment, Ready, Skipped, BlocksFit, WheelCall, marksFrom};
+ghost use Rattle.allocation.specs.Blocks.{Increment, Ready, Skipped, BlocksFit, marksFrom};
 
 // Where the wheel stands, with its skip interval and the reserve.
 pub struct Wheel {
@@ -63,7 +66,8 @@ fn assign_blocks(
 
 // The number of blocks T1: S divided by the increment, rounded up.
 fn block_count(exercised: Contracts, increment: Contracts) -> u32
-    requires { ⌜ Increment (increment .0) (exercised .0) ⌝ }
+    requires { ⌜ Increment (increment .0) ⌝ }
+    requires { ⌜ exercised .0 ≤ MOST_CONTRACTS ⌝ }
     ensures { λ r. ⌜ r ≡ blocksOf (increment .0) (exercised .0) ⌝ }
 {
     (exercised.0 + (increment.0 - 1)) / increment.0
@@ -71,7 +75,8 @@ fn block_count(exercised: Contracts, increment: Contracts) -> u32
 
 // The contracts of the last block: what the whole blocks before it leave of S.
 fn last_block(exercised: Contracts, increment: Contracts, blocks: u32) -> Contracts
-    requires { ⌜ Increment (increment .0) (exercised .0) ⌝ }
+    requires { ⌜ Increment (increment .0) ⌝ }
+    requires { ⌜ 0 < exercised .0 ⌝ }
     requires { ⌜ blocks ≡ blocksOf (increment .0) (exercised .0) ⌝ }
     ensures { λ r. ⌜ r .0 ≡ exercised .0 - increment .0 * (blocks - 1) ⌝ }
 {
@@ -87,7 +92,9 @@ pub fn assign(
     increment: Contracts,
     amounts: &mut [u32],
 ) -> u32
-    requires { ⌜ WheelCall (now shorts) (now amounts) (total .0) (exercised .0) draw (increment .0) ⌝ }
+    requires { ⌜ JudgedSeries (now shorts) (total .0) (exercised .0) (now amounts) ⌝ }
+    requires { ⌜ Increment (increment .0) ⌝ }
+    requires { ⌜ ((exercised .0 ≡ total .0 → ⊥) → OnWheel (total .0) draw) ⌝ }
     ensures { λ r. ⌜ r ≡ blocksUsed (increment .0) (total .0) (exercised .0) ⌝ }
     ensures { λ _. ⌜ now (amounts .exit) ≡ wheel (increment .0) (now (shorts .entry)) (exercised .0) draw ⌝ }
 {

@@ -1,5 +1,7 @@
 // Calls of the allocating call, a line for each: a label, the answer, and every element of an output that held 7 eight times. Then lists and calls that are only judged.
-// The calls stand in the file stdin, a line for each; a line that begins with `#` says what the next ones are. A line is a label and a colon, a letter (a: allocated, b: allocated by last numbers, l: only the list is judged, m: only the list of last numbers is judged, j: the call is judged), the method's letter, and four lists, each ended by a semicolon: S, the draw and the room; codes; accounts; shorts or last numbers. A space ends each number, and `4097*` stands for so many ones.
+// The calls stand in the file stdin, a line for each; a line that begins with `#` says what the next ones are.
+// A line is a label and a colon, a letter (a: allocated, b: allocated by last numbers, l: only the list is judged, m: only the list of last numbers is judged, j: the call is judged), the method's letter, and four lists, each ended by a semicolon: S, the draw and the room; codes; accounts; shorts or last numbers.
+// A space ends each number, and `4097*` stands for so many ones.
 use forms::Form;
 use judging::Judged;
 use judging::judge;
@@ -8,6 +10,7 @@ use series::Contracts;
 use series::Method;
 use series::Refusal;
 use series::Terms;
+use series::terms_of;
 ghost use Prim.Native.Nat.{_≤_, max};
 ghost use lib.ListN.{length};
 
@@ -179,11 +182,7 @@ fn show_lists(text: &[u8], at: usize, letter: u8, method: Method) {
     let second = list_at(text, first.next, &mut codes);
     let third = list_at(text, second.next, &mut accounts);
     let fourth = list_at(text, third.next, &mut numbers);
-    let terms = Terms {
-        method,
-        exercised: Contracts(values[0]),
-        draw: values[1],
-    };
+    let terms = terms_of(method, Contracts(values[0]), values[1]);
     let coded = second.length;
     let listed = third.length;
     let numbered = fourth.length;

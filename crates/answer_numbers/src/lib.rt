@@ -1,9 +1,7 @@
-// Between the numbers of C and the types of the calls: the form and the values of a series, and what an answer hands back.
+// Between the numbers of C and the types of the calls: the form, and what an answer hands back.
 use forms::Form;
 use series::Answer;
 use series::Contracts;
-use series::Method;
-use series::Terms;
 ghost use mathlib.Core.Path.{_≡_};
 ghost use Rattle.series.specs.Results.{value};
 ghost use Rattle.series.specs.Answers.{answerOf};
@@ -26,17 +24,6 @@ pub fn number_of(form: Form) -> u32
     match form {
         Form::Shorts => 0,
         Form::LastNumbers => 1,
-    }
-}
-
-// The values of a series, from numbers.
-pub fn terms_of(method: Method, exercised: u32, draw: u32) -> Terms
-    ensures { λ r. ⌜ r ≡ record { method = method; exercised = record { 0 = exercised }; draw = draw } ⌝ }
-{
-    Terms {
-        method,
-        exercised: Contracts(exercised),
-        draw,
     }
 }
 

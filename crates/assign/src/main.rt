@@ -1,7 +1,8 @@
 // Reads the text of a series from standard input, and writes to standard output its amounts or its refusal. Standard error is for people.
 ghost use lib.ListN.{length};
 ghost use Prim.Native.Nat.{_≤_};
-ghost use Rattle.responses.specs.Printed.{printed, MOST_PRINTED};
+ghost use Rattle.series.specs.Results.{status};
+ghost use Rattle.responses.specs.Printed.{textOrRefusal, printed, MOST_PRINTED};
 ghost use Rattle.responses.specs.Responses.{responseOf, Whole};
 use console::Input;
 use responses::Response;
@@ -19,10 +20,10 @@ fn output_buffer() -> [u8; 70705]
     [0; 70705]
 }
 
-// Answers a text: all that is printed for it stands in the output.
+// Answers a text: all that is printed for it stands in the output, and the refusal that it tells, if any, is answered.
 fn respond(text: &[u8], output: &mut [u8]) -> Response
     requires { ⌜ MOST_PRINTED ≤ length (now output) ⌝ }
-    ensures { λ r. ⌜ Whole (responseOf r .written) (printed (now (text .entry))) (now (output .exit)) ⌝ }
+    ensures { λ r. ⌜ Whole (responseOf r) (printed (now (text .entry))) (status (textOrRefusal (now (text .entry)))) (now (output .exit)) ⌝ }
 {
     assignment_text::respond(text, output)
 }

@@ -37,7 +37,7 @@ use Rattle.text_rules.specs.Text.{MOST_LINES, readText}
 use Rattle.text_writing.specs.Tables.{tablesInto}
 use Rattle.text_rules.specs.Calls.{evenly, lineCount, headAndLines, linesInto, tableInto}
 use Rattle.responses.specs.Printed.{refusedLines, assignedLines, rangeColumns, rangeLines, rangesBy, seriesOrRefusal, textOrRefusal, linesFor, printed}
-use Rattle.responses.specs.Responses.{Responds}
+use Rattle.responses.specs.Responses.{Responds, RespondsFor}
 use Rattle.responses.specs.declared.Response.{Response}
 use Rattle.responses.proofs.ResponseLaws.{textInto}
 use Rattle.assignment_text.specs.Lists.{Lists}
@@ -79,14 +79,14 @@ none-ranged Method.RemainderDraw k accounts shorts = absurd (⊎-elim (λ z. ome
 module _ (f : Form) (s : Series) where
   -- what the call hands back
   abbrev allocation : ℕ → Allocation
-  allocation T = record { method = method s; total = T; further = further s }
+  allocation T = record { method = method s; total = T; further = further (s .terms) (s .shorts) }
 
   refused-is : (v : Result ℕ) (n : ℕ) → _≡_ {A = Result Allocation} (refused n) (v >>= (λ T. value (allocation T))) → (inForm f v >>= (λ T. value s)) ≡ refused (numberIn f n)
   refused-is (value T) n e = absurd (never n _ e)
   refused-is (refused k) n e = let same : k ≡ n = cc in ap (λ i. refused (numberIn f i)) same
 
   -- the call answered with a refusal
-  pub turned-away : (r : Response) (old new : Text) (n v : ℕ) → refused n ≡ answer s (length (s .shorts)) → v ≡ numberIn f n → Responds r (refusedLines v) v old new → Responds r (linesFor (seriesOrRefusal f s)) (status (seriesOrRefusal f s)) old new
+  pub turned-away : (r : Response) (old new : Text) (n v : ℕ) → refused n ≡ answer s (length (s .shorts)) → v ≡ numberIn f n → Responds r (refusedLines v) v old new → RespondsFor r (seriesOrRefusal f s) old new
   unfolding answer seriesOrRefusal linesFor
   turned-away r old new n v e is p = rw (refused-is (verdict s (length (s .shorts))) n e, ← is) p
 
@@ -115,20 +115,20 @@ module _ (f : Form) (s : Series) where
     few-contracts = accepted-facts s _ (verdict-accepted s _ _ accepted) .total-most
 
     -- the output holds the amounts alone
-    pub amounts-are : (old new : List ℕ) → length old ≡ length (s .shorts) → new ≡ output s old → new ≡ assigned s
+    pub amounts-are : (old new : List ℕ) → length old ≡ length (s .shorts) → new ≡ output s old → new ≡ assigned (s .terms) (s .shorts)
     unfolding output onto
     amounts-are old new l is =
-        let none : drop (length (assigned s)) old ≡ [] = rw (length-assigned s, ← l) (drop-length old) in
-        is ∙ rw (l, accepted, none) (append-nil (assigned s))
+        let none : drop (length (assigned (s .terms) (s .shorts))) old ≡ [] = rw (length-assigned (s .terms) (s .shorts), ← l) (drop-length old) in
+        is ∙ rw (l, accepted, none) (append-nil (assigned (s .terms) (s .shorts)))
 
-    pub assigned-all : (r : Response) (old new : Text) → Responds r (assignedLines (s .accounts) (assigned s) ++ rangesBy (method s) (s .accounts) (s .shorts)) 0 old new → Responds r (linesFor (seriesOrRefusal f s)) (status (seriesOrRefusal f s)) old new
+    pub assigned-all : (r : Response) (old new : Text) → Responds r (assignedLines (s .accounts) (assigned (s .terms) (s .shorts)) ++ rangesBy (method s) (s .accounts) (s .shorts)) 0 old new → RespondsFor r (seriesOrRefusal f s) old new
     unfolding seriesOrRefusal linesFor
     assigned-all r old new p = rw accepted p
 
 -- the same for equal shorts
 pub shorts-as : (f : Form) (t : Terms) (codes accounts hs hs′ : List ℕ) (r : Response) (old new : Text) → hs ≡ hs′
-    → Responds r (linesFor (seriesOrRefusal f (record { terms = t; codes = codes; accounts = accounts; shorts = hs }))) (status (seriesOrRefusal f (record { terms = t; codes = codes; accounts = accounts; shorts = hs }))) old new
-    → Responds r (linesFor (seriesOrRefusal f (record { terms = t; codes = codes; accounts = accounts; shorts = hs′ }))) (status (seriesOrRefusal f (record { terms = t; codes = codes; accounts = accounts; shorts = hs′ }))) old new
+    → RespondsFor r (seriesOrRefusal f (record { terms = t; codes = codes; accounts = accounts; shorts = hs })) old new
+    → RespondsFor r (seriesOrRefusal f (record { terms = t; codes = codes; accounts = accounts; shorts = hs′ })) old new
 shorts-as f t codes accounts hs hs′ r old new e p = rw (← e) p
 
 -- ---- the whole call
@@ -137,6 +137,6 @@ pub text-refused : (s : Text) (r : Response) (old new : Text) (n : ℕ) → read
 unfolding printed textOrRefusal linesFor
 text-refused s r old new n e p = rw e p
 
-pub text-read : (s : Text) (r : Response) (old new : Text) (l : Listing) → readText s ≡ value l → Responds r (linesFor (seriesOrRefusal (l .form) (seriesIn l))) (status (seriesOrRefusal (l .form) (seriesIn l))) old new → Responds r (printed s) (status (textOrRefusal s)) old new
+pub text-read : (s : Text) (r : Response) (old new : Text) (l : Listing) → readText s ≡ value l → RespondsFor r (seriesOrRefusal (l .form) (seriesIn l)) old new → Responds r (printed s) (status (textOrRefusal s)) old new
 unfolding printed textOrRefusal
 text-read s r old new l e p = rw e p

@@ -10,8 +10,8 @@ ghost use Rattle.series.specs.Places.{total as totalOf};
 ghost use Rattle.series.specs.Series.{MOST_CONTRACTS};
 ghost use Rattle.forms.specs.Forms.{shortsBy};
 ghost use Rattle.text_rules.specs.Text.{MOST_LINES};
-ghost use Rattle.responses.specs.Printed.{assignedLines, rangeLines, rangesBy, seriesOrRefusal, textOrRefusal, linesFor, printed};
-ghost use Rattle.responses.specs.Responses.{Responds};
+ghost use Rattle.responses.specs.Printed.{assignedLines, rangeLines, rangesBy, seriesOrRefusal, textOrRefusal, printed};
+ghost use Rattle.responses.specs.Responses.{Responds, RespondsFor};
 ghost use Rattle.assignment_text.specs.Lists.{Lists, RangeLists};
 use forms::Form;
 use responses::Response;
@@ -119,7 +119,7 @@ fn assign(
     output: &mut [u8],
 ) -> Response
     requires { ⌜ Lists (now accounts) (now shorts) (now amounts) × (length (now codes) ≡ length (now shorts)) ⌝ }
-    ensures { λ r. ⌜ Responds r (linesFor (seriesOrRefusal form (record { terms = terms; codes = now (codes .entry); accounts = now (accounts .entry); shorts = now (shorts .entry) }))) (status (seriesOrRefusal form (record { terms = terms; codes = now (codes .entry); accounts = now (accounts .entry); shorts = now (shorts .entry) }))) (now (output .entry)) (now (output .exit)) ⌝ }
+    ensures { λ r. ⌜ RespondsFor r (seriesOrRefusal form (record { terms = terms; codes = now (codes .entry); accounts = now (accounts .entry); shorts = now (shorts .entry) })) (now (output .entry)) (now (output .exit)) ⌝ }
 {
     let answer = allocation::allocate(terms, codes, accounts, shorts, amounts);
     let Answer::Refused(refusal) = answer else {
@@ -140,7 +140,7 @@ fn assign_listing(
     output: &mut [u8],
 ) -> Response
     requires { ⌜ Lists (now accounts) (now numbers) (now amounts) × (length (now codes) ≡ length (now numbers)) ⌝ }
-    ensures { λ r. ⌜ Responds r (linesFor (seriesOrRefusal form (record { terms = terms; codes = now (codes .entry); accounts = now (accounts .entry); shorts = shortsBy form (now (numbers .entry)) }))) (status (seriesOrRefusal form (record { terms = terms; codes = now (codes .entry); accounts = now (accounts .entry); shorts = shortsBy form (now (numbers .entry)) }))) (now (output .entry)) (now (output .exit)) ⌝ }
+    ensures { λ r. ⌜ RespondsFor r (seriesOrRefusal form (record { terms = terms; codes = now (codes .entry); accounts = now (accounts .entry); shorts = shortsBy form (now (numbers .entry)) })) (now (output .entry)) (now (output .exit)) ⌝ }
 {
     forms::to_shorts(form, numbers);
     assign(form, terms, codes, accounts, numbers, amounts, output)

@@ -1,18 +1,17 @@
 -- All that is printed for a text stands in an output of 31,809 bytes.
 use Prim.Native.Nat.{ℕ, _≤_}
 use mathlib.Core.Path.{_≡_, refl, sym, ap, _∙_}
-use mathlib.Core.List.{_++_}
 use native.Mathlib.Omega.{arith}
 use borrow.Author.Tests.{le-ltb}
 use lib.ListN.{length, drop}
 use lib.Seq.{take-at}
-use Rattle.series.specs.Results.{Result, refused, value, _>>=_, refuse, after}
+use Rattle.series.specs.Results.{Result, refused, value, refuse, status}
 use Rattle.series.specs.Outputs.{onto}
 use Rattle.series.proofs.ResultLaws.{never, value-is}
 use Rattle.forms.specs.Forms.{Listing, changed}
 use Rattle.text_rules.specs.Fields.{Text}
 use Rattle.text_rules.specs.Text.{readText, writeText}
-use Rattle.text_rules.specs.Calls.{changedInto, changeInto, MOST_CHANGED, lengthOf}
+use Rattle.text_rules.specs.Calls.{changedInto, changeInto, MOST_CHANGED, lengthOf, WritingCall}
 use Rattle.text_rules.proofs.ShortestText.{read-writable}
 use Rattle.text_rules.proofs.ChangeLaws.{Change, change-writes, changed-short}
 use Rattle.responses.specs.Printed.{refusedLines}
@@ -37,23 +36,23 @@ room-enough s room enough = go (readText s) refl
     go (refused n) e = rw e refl
     go (value l) e = made l e (changed l) refl
 
--- a changed text stands whole in the output
-pub whole-written : (s old new : Text) (n : ℕ) → MOST_CHANGED ≤ length old → value n ≡ lengthOf (changeInto s (length old)) → new ≡ after (changeInto s (length old)) (λ t. onto t old) old → Whole n (changedLines s) new
+-- a changed text stands whole in the output, and tells no refusal
+pub whole-written : (s old new : Text) (n : ℕ) → MOST_CHANGED ≤ length old → WritingCall (changeInto s (length old)) (value n) old new → Whole (record { written = n; refusal = 0 }) (changedLines s) (status (changeInto s MOST_CHANGED)) new
 unfolding changedLines linesOf lengthOf onto
-whole-written s old new n enough e out = go (changeInto s (length old)) (room-enough s (length old) enough) e out
+whole-written s old new n enough call = go (changeInto s (length old)) (room-enough s (length old) enough) call
   where
-    go : (r : Result Text) → r ≡ changeInto s MOST_CHANGED → value n ≡ (r >>= λ t. value (length t)) → new ≡ after r (λ t. t ++ drop (length t) old) old → Whole n (linesOf (changeInto s MOST_CHANGED)) new
-    go (refused k) is f g = absurd (never k n (sym f))
-    go (value t) is f g = rw (← is) (record { bytes = value-is f; text = rw (g, value-is f) (take-at t (drop (length t) old) (length t) refl) })
+    go : (w : Result Text) → w ≡ changeInto s MOST_CHANGED → WritingCall w (value n) old new → Whole (record { written = n; refusal = 0 }) (linesOf (changeInto s MOST_CHANGED)) (status (changeInto s MOST_CHANGED)) new
+    go (refused k) is call = absurd (never k n (sym (call .answered)))
+    go (value t) is call = rw (← is) (record { handed = ap (λ k. record { written = k; refusal = 0 }) (value-is (call .answered)); text = rw (call .written) (take-at t (drop (length t) old) (length t) refl) })
 
--- and so do the lines of a refusal, before which nothing was written
-pub whole-refused : (s old mid new : Text) (n : ℕ) (r : Response) → MOST_CHANGED ≤ length old → refused n ≡ lengthOf (changeInto s (length old)) → mid ≡ after (changeInto s (length old)) (λ t. onto t old) old
-    → Responds r (refusedLines n) n mid new → Whole (responseOf r .written) (changedLines s) new
+-- and so do the lines of a refusal, before which nothing was written, and tell it
+pub whole-refused : (s old mid new : Text) (n : ℕ) (r : Response) → MOST_CHANGED ≤ length old → WritingCall (changeInto s (length old)) (refused n) old mid → Responds r (refusedLines n) n mid new → Whole (responseOf r) (changedLines s) (status (changeInto s MOST_CHANGED)) new
 unfolding changedLines linesOf lengthOf
-whole-refused s old mid new n r enough e out p = go (changeInto s (length old)) (room-enough s (length old) enough) e out
+whole-refused s old mid new n r enough call p = go (changeInto s (length old)) (room-enough s (length old) enough) call
   where
-    go : (v : Result Text) → v ≡ changeInto s MOST_CHANGED → refused n ≡ (v >>= λ t. value (length t)) → mid ≡ after v (λ t. onto t old) old → Whole (responseOf r .written) (linesOf (changeInto s MOST_CHANGED)) new
-    go (value t) is f g = absurd (never n (length t) f)
-    go (refused k) is f g =
+    go : (w : Result Text) → w ≡ changeInto s MOST_CHANGED → WritingCall w (refused n) old mid → Whole (responseOf r) (linesOf (changeInto s MOST_CHANGED)) (status (changeInto s MOST_CHANGED)) new
+    go (value t) is call = absurd (never n (length t) (call .answered))
+    go (refused k) is call =
+        let told : _≡_ {A = Result ℕ} (refused n) (refused k) = call .answered in
         let same : k ≡ n = cc in
-        rw (← is, same) (responds-whole (refusedLines n) r n mid new (omega (arith, refused-room n, ap length g)) p)
+        rw (← is, same) (responds-whole (refusedLines n) r n mid new (omega (arith, refused-room n, ap length (call .written))) p)

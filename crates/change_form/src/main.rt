@@ -4,8 +4,9 @@ use responses::Response;
 use text_writing::Writing;
 ghost use lib.ListN.{length};
 ghost use Prim.Native.Nat.{_≤_};
+ghost use Rattle.series.specs.Results.{status};
 ghost use Rattle.responses.specs.Responses.{responseOf, Whole};
-ghost use Rattle.text_rules.specs.Calls.{MOST_CHANGED};
+ghost use Rattle.text_rules.specs.Calls.{changeInto, MOST_CHANGED};
 ghost use Rattle.change_form.specs.Changed.{changedLines};
 
 // The program's name.
@@ -21,10 +22,10 @@ fn output_buffer() -> [u8; 31809]
     [0; 31809]
 }
 
-// Changes a text: all that is printed for it stands in the output.
+// Changes a text: all that is printed for it stands in the output, and the refusal that it tells, if any, is answered.
 fn respond(text: &[u8], output: &mut [u8]) -> Response
     requires { ⌜ MOST_CHANGED ≤ length (now output) ⌝ }
-    ensures { λ r. ⌜ Whole (responseOf r .written) (changedLines (now (text .entry))) (now (output .exit)) ⌝ }
+    ensures { λ r. ⌜ Whole (responseOf r) (changedLines (now (text .entry))) (status (changeInto (now (text .entry)) MOST_CHANGED)) (now (output .exit)) ⌝ }
 {
     match form_change::change(text, output) {
         Writing::Written(n) => Response::Printed(n),

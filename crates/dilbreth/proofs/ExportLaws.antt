@@ -7,7 +7,8 @@ use native.Mathlib.Omega.{arith}
 use lib.Dec.{ltb}
 use lib.ListN.{length}
 use Rattle.series.specs.Results.{Result, refused, value, refuse, after, status}
-use Rattle.series.specs.Outputs.{onto, ontoRoom}
+use Rattle.series.specs.Outputs.{onto, ontoRoom, Lent, lent}
+use Rattle.series.specs.Series.{termsOf}
 use Rattle.series.specs.Answers.{Allocation, handedBack}
 use Rattle.series.specs.Call.{output}
 use Rattle.series.specs.declared.Method.{Method}
@@ -16,23 +17,17 @@ use Rattle.forms.specs.Forms.{Listing, ListingCall}
 use Rattle.forms.specs.declared.Form.{Form}
 use Rattle.text_rules.specs.Fields.{Text}
 use Rattle.text_rules.specs.Letters.{letter, methodBy}
-use Rattle.text_rules.specs.Calls.{Handed, handed, writeInto, lengthOf}
+use Rattle.text_rules.specs.Calls.{Handed, handed, ListsRead, writeInto, lengthOf, WritingCall}
 use Rattle.responses.specs.Printed.{printed}
 use Rattle.responses.specs.Responses.{Printing, responseOf, printInto, Responds}
 use Rattle.responses.specs.declared.Response.{Response}
 use Rattle.responses.proofs.RoomLaws.{printed-room}
 use Rattle.answer_numbers.specs.Numbers.{formBy, formNumber, Handing, handedNumbers}
-use Rattle.dilbreth.specs.Exports.{listingBy, called, Allocates, Reads, writtenBy, printedInto, Writes}
-
--- the values of a series with a known method
-abbrev termsOf : Method → ℕ → ℕ → Terms
-termsOf m S draw = record { method = m; exercised = record { 0 = S }; draw = draw }
+use Rattle.dilbreth.specs.Exports.{listingBy, called, Allocates, Reads, writtenBy, printedInto, Hands, Writes}
 
 -- a call that hands back the length of what it writes
-pub by-length : (s : Result Text) (w : Result ℕ) (r : ℕ) (old new : Text) (n n′ : ℕ) → w ≡ lengthOf s → new ≡ after s (λ t. onto t old) old → r ≡ status w → n′ ≡ after w (λ k. k) n → Writes s r old new (record { old = n; new = n′ })
-unfolding lengthOf
-by-length (refused k) w r old new n n′ ew en er ek = record { answers = er ∙ ap status ew; writes = en; hands-length = ek ∙ ap (λ x. after x (λ i. i) n) ew }
-by-length (value t) w r old new n n′ ew en er ek = record { answers = er ∙ ap status ew; writes = en; hands-length = ek ∙ ap (λ x. after x (λ i. i) n) ew }
+pub by-length : (s : Result Text) (a : Result ℕ) (r : ℕ) (old new : Text) (written : Lent ℕ) → WritingCall s a old new → Hands a r written → Writes s r old new written
+by-length s a r old new written call hands = record { hands-length = rw (call .answered) at hands; writes = call .written }
 
 -- the numbers of an answer
 status-is : (a : Result Allocation) → status (handedNumbers a) ≡ status a
@@ -59,7 +54,7 @@ module _ (l f S draw : ℕ) (codes accounts numbers : List ℕ) where
   unfolding listingBy
   by-known m e = rw (← e)
 
-  pub allocate-unknown : refused 14 ≡ methodBy l → (old : List ℕ) (T k : ℕ) → Allocates (listingBy l f S draw codes accounts numbers) 14 old old (record { old = T; new = T }) (record { old = k; new = k })
+  pub allocate-unknown : refused 14 ≡ methodBy l → (old : List ℕ) (T k : ℕ) → Allocates (listingBy l f S draw codes accounts numbers) 14 old old (lent T T) (lent k k)
   unfolding called
   allocate-unknown e old T k = rw (by-unknown e) (record { answers = refl; writes = refl; hands-total = refl; hands-further = refl })
 
@@ -76,21 +71,21 @@ module _ (l f S draw : ℕ) (codes accounts numbers : List ℕ) where
         hands-further = further-is a k ∙ ap (λ r. after r (λ x. handedBack (x .further)) k) ea;
       })
 
-  pub write-unknown : refused 14 ≡ methodBy l → (old : Text) (n : ℕ) → Writes (writtenBy (listingBy l f S draw codes accounts numbers) (length old)) 14 old old (record { old = n; new = n })
-  unfolding writtenBy
-  write-unknown e old n = rw (by-unknown e) (record { answers = refl; writes = refl; hands-length = refl })
+  pub write-unknown : refused 14 ≡ methodBy l → (old : Text) (n : ℕ) → Writes (writtenBy (listingBy l f S draw codes accounts numbers) (length old)) 14 old old (lent n n)
+  unfolding writtenBy lengthOf
+  write-unknown e old n = rw (by-unknown e) (record { hands-length = record { answers = refl; hands-number = refl }; writes = refl })
 
-  pub write-known : (m : Method) → value m ≡ methodBy l → (t : Terms) → t ≡ termsOf m S draw → (g : Form) → g ≡ formBy f → (w : Result ℕ) (r : ℕ) (old new : Text) (n n′ : ℕ) → w ≡ lengthOf (writeInto (record { form = g; terms = t; codes = codes; accounts = accounts; numbers = numbers }) (length old)) → new ≡ after (writeInto (record { form = g; terms = t; codes = codes; accounts = accounts; numbers = numbers }) (length old)) (λ s. onto s old) old → r ≡ status w → n′ ≡ after w (λ k. k) n
-      → Writes (writtenBy (listingBy l f S draw codes accounts numbers) (length old)) r old new (record { old = n; new = n′ })
+  pub write-known : (m : Method) → value m ≡ methodBy l → (t : Terms) → t ≡ termsOf m S draw → (g : Form) → g ≡ formBy f → (a : Result ℕ) (r : ℕ) (old new : Text) (written : Lent ℕ) → WritingCall (writeInto (record { form = g; terms = t; codes = codes; accounts = accounts; numbers = numbers }) (length old)) a old new → Hands a r written
+      → Writes (writtenBy (listingBy l f S draw codes accounts numbers) (length old)) r old new written
   unfolding writtenBy
-  write-known m e t et g eg w r old new n n′ ew en er ek = rw (by-known m e, ← et, ← eg) (by-length (writeInto (record { form = g; terms = t; codes = codes; accounts = accounts; numbers = numbers }) (length old)) w r old new n n′ ew en er ek)
+  write-known m e t et g eg a r old new written call hands = rw (by-known m e, ← et, ← eg) (by-length _ a r old new written call hands)
 
 -- what reading hands back
-pub read-hands : (s : Result Listing) (h : Result Handed) (l S d f p : ℕ) → h ≡ handed s
-    → Reads s (status h) (record { old = l; new = after h (λ x. letter (x .terms .method)) l }) (record { old = S; new = after h (λ x. x .terms .exercised .0) S }) (record { old = d; new = after h (λ x. x .terms .draw) d }) (record { old = f; new = after h (λ x. formNumber (x .form)) f }) (record { old = p; new = after h (λ x. x .positions) p })
+pub read-hands : (s : Result Listing) (h : Result Handed) (codes accounts numbers : Lent (List ℕ)) (l S d f p : ℕ) → h ≡ handed s → ListsRead s codes accounts numbers
+    → Reads s (status h) codes accounts numbers (lent l (after h (λ x. letter (x .terms .method)) l)) (lent S (after h (λ x. x .terms .exercised .0) S)) (lent d (after h (λ x. x .terms .draw) d)) (lent f (after h (λ x. formNumber (x .form)) f)) (lent p (after h (λ x. x .positions) p))
 unfolding handed
-read-hands (refused n) h l S d f p e = rw e (record { answers = refl; hands-letter = refl; hands-exercised = refl; hands-draw = refl; hands-form = refl; hands-positions = refl })
-read-hands (value t) h l S d f p e = rw e (record { answers = refl; hands-letter = refl; hands-exercised = refl; hands-draw = refl; hands-form = refl; hands-positions = refl })
+read-hands (refused n) h codes accounts numbers l S d f p e lists = rw e (record { lists = lists; answers = refl; hands-letter = refl; hands-exercised = refl; hands-draw = refl; hands-form = refl; hands-positions = refl })
+read-hands (value t) h codes accounts numbers l S d f p e lists = rw e (record { lists = lists; answers = refl; hands-letter = refl; hands-exercised = refl; hands-draw = refl; hands-form = refl; hands-positions = refl })
 
 -- ---- printing
 
@@ -100,20 +95,20 @@ module _ (s : Text) (v : ℕ) (old new : Text) (k : ℕ) where
   printing b = cond b (record { written = 0; refusal = 4 }) (record { written = length (printed s); refusal = v })
 
   whole : (b : Bool) (n q : ℕ) → (q ≡ 4 → n ≡ 0 → ⊥) → _≡_ {A = Printing} (record { written = n; refusal = q }) (printing b) → new ≡ cond b old (onto (printed s) old)
-      → Writes (refuse b 4 (printed s)) 0 old new (record { old = k; new = n })
-  unfolding printing
+      → Writes (refuse b 4 (printed s)) 0 old new (lent k n)
+  unfolding printing lengthOf
   whole true n q some e out = absurd (some (ap (λ (h : Printing). h .refusal) e) (ap (λ (h : Printing). h .written) e))
-  whole false n q some e out = record { answers = refl; writes = out; hands-length = ap (λ (h : Printing). h .written) e }
+  whole false n q some e out = record { hands-length = record { answers = refl; hands-number = ap (λ (h : Printing). h .written) e }; writes = out }
 
-  none : (b : Bool) (q : ℕ) → _≡_ {A = Printing} (record { written = 0; refusal = q }) (printing b) → new ≡ cond b old (onto (printed s) old) → Writes (refuse b 4 (printed s)) 4 old new (record { old = k; new = k })
-  unfolding printing
-  none true q e out = record { answers = refl; writes = out; hands-length = refl }
+  none : (b : Bool) (q : ℕ) → _≡_ {A = Printing} (record { written = 0; refusal = q }) (printing b) → new ≡ cond b old (onto (printed s) old) → Writes (refuse b 4 (printed s)) 4 old new (lent k k)
+  unfolding printing lengthOf
+  none true q e out = record { hands-length = record { answers = refl; hands-number = refl }; writes = out }
   none false q e out = absurd (omega (arith, printed-room s .some, ap (λ (h : Printing). h .written) e))
 
-  pub respond-whole : (r : Response) (n q : ℕ) → responseOf r ≡ record { written = n; refusal = q } → (q ≡ 4 → n ≡ 0 → ⊥) → Responds r (printed s) v old new → Writes (printedInto s (length old)) 0 old new (record { old = k; new = n })
+  pub respond-whole : (r : Response) (n q : ℕ) → responseOf r ≡ record { written = n; refusal = q } → (q ≡ 4 → n ≡ 0 → ⊥) → Responds r (printed s) v old new → Writes (printedInto s (length old)) 0 old new (lent k n)
   unfolding printedInto printInto ontoRoom printing
   respond-whole r n q is some p = whole (ltb (length old) (length (printed s))) n q some (sym is ∙ p .hands) (p .output)
 
-  pub respond-none : (r : Response) (n q : ℕ) → responseOf r ≡ record { written = n; refusal = q } → n ≡ 0 → Responds r (printed s) v old new → Writes (printedInto s (length old)) 4 old new (record { old = k; new = k })
+  pub respond-none : (r : Response) (n q : ℕ) → responseOf r ≡ record { written = n; refusal = q } → n ≡ 0 → Responds r (printed s) v old new → Writes (printedInto s (length old)) 4 old new (lent k k)
   unfolding printedInto printInto ontoRoom printing
   respond-none r n q is z p = none (ltb (length old) (length (printed s))) q (rw z at (sym is ∙ p .hands)) (p .output)

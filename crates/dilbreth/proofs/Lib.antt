@@ -1,3 +1,4 @@
--- Laws that the proofs of src/ cite.
+-- Laws that the proofs of src/ cite, and claims.
 mod ExportLaws
 mod DayLaws
+pub mod Claims

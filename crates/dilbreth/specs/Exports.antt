@@ -5,21 +5,22 @@ use mathlib.Core.List.{List}
 use lib.Dec.{ltb}
 use lib.ListN.{length}
 use Rattle.series.specs.Results.{Result, value, _>>=_, refuse, after, status}
-use Rattle.series.specs.Outputs.{onto}
+use Rattle.series.specs.Outputs.{onto, Lent}
+use Rattle.series.specs.Series.{termsOf}
 use Rattle.series.specs.Answers.{Allocation, handedBack}
 use Rattle.series.specs.Call.{answer, output}
 use Rattle.forms.specs.Forms.{Listing, seriesIn, inForm}
 use Rattle.answer_numbers.specs.Numbers.{formBy, formNumber}
 use Rattle.text_rules.specs.Fields.{Text}
 use Rattle.text_rules.specs.Letters.{letter, methodBy}
-use Rattle.text_rules.specs.Calls.{writeInto}
+use Rattle.text_rules.specs.Calls.{ListsRead, writeInto, lengthOf}
 use Rattle.responses.specs.Printed.{printed}
 
 -- the listing whose method comes as its letter and whose form as its number; any other letter is 14 before all other refusals
 unfoldable pub listingBy : ℕ → ℕ → ℕ → ℕ → List ℕ → List ℕ → List ℕ → Result Listing
 listingBy l f S draw codes accounts numbers = do
   m ← methodBy l
-  value (record { form = formBy f; terms = record { method = m; exercised = record { 0 = S }; draw = draw }; codes = codes; accounts = accounts; numbers = numbers })
+  value (record { form = formBy f; terms = termsOf m S draw; codes = codes; accounts = accounts; numbers = numbers })
 
 -- the allocating call's answer, with an output of length room
 unfoldable pub called : Result Listing → ℕ → Result Allocation
@@ -27,20 +28,16 @@ called r room = do
   l ← r
   inForm (l .form) (answer (seriesIn l) room)
 
--- a number that stood behind an argument, and the one that stands there after the call
-pub record Number : Type 0 where
-  pub old : ℕ
-  pub new : ℕ
-
 -- the allocating call on a listing s: its answer r, its output from old to new, T and the further number, 0 where there is none
-pub record Allocates (s : Result Listing) (r : ℕ) (old new : List ℕ) (total further : Number) : Type 0 where
+pub record Allocates (s : Result Listing) (r : ℕ) (old new : List ℕ) (total further : Lent ℕ) : Type 0 where
   pub answers : r ≡ status (called s (length old))
   pub writes : new ≡ after s (λ l. output (seriesIn l) old) old
   pub hands-total : total .new ≡ after (called s (length old)) (λ a. a .total) (total .old)
   pub hands-further : further .new ≡ after (called s (length old)) (λ a. handedBack (a .further)) (further .old)
 
--- what reading hands back of a listing: the letter of its method, S, the draw, the number of its form and the number of positions
-pub record Reads (s : Result Listing) (r : ℕ) (letters exercised draw form positions : Number) : Type 0 where
+-- a call that reads a listing s: its answer r, its three lists, and what it hands back: the letter of the method, S, the draw, the number of the form and the number of positions
+pub record Reads (s : Result Listing) (r : ℕ) (codes accounts numbers : Lent (List ℕ)) (letters exercised draw form positions : Lent ℕ) : Type 0 where
+  pub lists : ListsRead s codes accounts numbers
   pub answers : r ≡ status s
   pub hands-letter : letters .new ≡ after s (λ t. letter (t .terms .method)) (letters .old)
   pub hands-exercised : exercised .new ≡ after s (λ t. t .terms .exercised .0) (exercised .old)
@@ -58,8 +55,12 @@ writtenBy r room = do
 unfoldable pub printedInto : Text → ℕ → Result Text
 printedInto s room = refuse (ltb room (length (printed s))) 4 (printed s)
 
--- a call that writes the text s: its answer r, its output from old to new, and the length of the text
-pub record Writes (s : Result Text) (r : ℕ) (old new : Text) (written : Number) : Type 0 where
-  pub answers : r ≡ status s
+-- a call that comes to the number d: its answer r, and the number that it hands back
+pub record Hands (d : Result ℕ) (r : ℕ) (number : Lent ℕ) : Type 0 where
+  pub answers : r ≡ status d
+  pub hands-number : number .new ≡ after d (λ n. n) (number .old)
+
+-- a call that writes the text s: its answer r, the length of the text, and its output from old to new
+pub record Writes (s : Result Text) (r : ℕ) (old new : Text) (written : Lent ℕ) : Type 0 where
+  pub hands-length : Hands (lengthOf s) r written
   pub writes : new ≡ after s (λ t. onto t old) old
-  pub hands-length : written .new ≡ after s length (written .old)

@@ -7,8 +7,10 @@ use activity::MarketMakerDay;
 use activity::Transactions;
 use series::Contracts;
 ghost use mathlib.Core.Path.{_≡_};
+ghost use Rattle.series.specs.Outputs.{lent};
 ghost use Rattle.activity_rules.specs.Activity.{investorOf, marketMakerOf, investorDay, marketMakerDay};
-ghost use Rattle.dilbreth.specs.Days.{dayBy, Processes, Limits};
+ghost use Rattle.dilbreth.specs.Days.{dayBy, Processes};
+ghost use Rattle.dilbreth.specs.Exports.{Hands};
 
 // The kind of day by its number: 0 is ordinary, any other the final trading day.
 fn day_by(number: u32) -> Day
@@ -35,7 +37,7 @@ pub extern "C" fn dilbreth_process_investor(
     long_after: &mut u32,
     short_after: &mut u32,
 ) -> u32
-    ensures { λ r. ⌜ Processes (investorDay (dayBy day) (investorOf «opening_long» «opening_short» «opening_purchases» «opening_sales» «closing_purchases» «closing_sales» exercised)) r (record { old = now (limit .entry); new = now (limit .exit) }) (record { old = now («long_after» .entry); new = now («long_after» .exit) }) (record { old = now («short_after» .entry); new = now («short_after» .exit) }) ⌝ }
+    ensures { λ r. ⌜ Processes (investorDay (dayBy day) (investorOf «opening_long» «opening_short» «opening_purchases» «opening_sales» «closing_purchases» «closing_sales» exercised)) r (lent (now (limit .entry)) (now (limit .exit))) (lent (now («long_after» .entry)) (now («long_after» .exit))) (lent (now («short_after» .entry)) (now («short_after» .exit))) ⌝ }
 {
     let investor = Investor {
         long: Contracts(opening_long),
@@ -71,7 +73,7 @@ pub extern "C" fn dilbreth_process_market_maker(
     sales: u32,
     limit: &mut u32,
 ) -> u32
-    ensures { λ r. ⌜ Limits (marketMakerDay (dayBy day) (marketMakerOf «opening_long» «opening_short» purchases sales)) r (record { old = now (limit .entry); new = now (limit .exit) }) ⌝ }
+    ensures { λ r. ⌜ Hands (marketMakerDay (dayBy day) (marketMakerOf «opening_long» «opening_short» purchases sales)) r (lent (now (limit .entry)) (now (limit .exit))) ⌝ }
 {
     let maker = MarketMaker {
         long: Contracts(opening_long),

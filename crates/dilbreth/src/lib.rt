@@ -1,21 +1,21 @@
 // The calls of the library for C and Rust, over numbers and slices. Each answers 0, or the number of a refusal of documents 01 and 02, and then nothing behind its arguments has changed.
 mod day;
 mod explain;
+mod version;
 
 use answer_numbers::Numbers;
 use answer_numbers::numbers_of;
-use answer_numbers::terms_of;
 use responses::Response;
+use series::Contracts;
+use series::terms_of;
 use series_text::Reading;
 use text_words::letters::Named;
 use text_writing::Writing;
-ghost use mathlib.Core.Path.{_≡_};
 ghost use lib.ListN.{length};
-ghost use Rattle.series.specs.Results.{after, status};
-ghost use Rattle.series.specs.Outputs.{onto};
+ghost use Rattle.series.specs.Outputs.{lent};
 ghost use Rattle.text_rules.specs.Calls.{readInto, changeInto};
 ghost use Rattle.text_writing.specs.Answers.{writingOf};
-ghost use Rattle.dilbreth.specs.Exports.{listingBy, Allocates, Reads, writtenBy, printedInto, Writes};
+ghost use Rattle.dilbreth.specs.Exports.{listingBy, Allocates, Reads, writtenBy, printedInto, Hands, Writes};
 
 // Assigns exercised contracts by the method W, P, L or R; any other letter is 14.
 #[no_mangle]
@@ -31,12 +31,12 @@ pub extern "C" fn dilbreth_allocate(
     total: &mut u32,
     further: &mut u32,
 ) -> u32
-    ensures { λ r. ⌜ Allocates (listingBy method form exercised draw (now (codes .entry)) (now (accounts .entry)) (now (numbers .entry))) r (now (amounts .entry)) (now (amounts .exit)) (record { old = now (total .entry); new = now (total .exit) }) (record { old = now (further .entry); new = now (further .exit) }) ⌝ }
+    ensures { λ r. ⌜ Allocates (listingBy method form exercised draw (now (codes .entry)) (now (accounts .entry)) (now (numbers .entry))) r (now (amounts .entry)) (now (amounts .exit)) (lent (now (total .entry)) (now (total .exit))) (lent (now (further .entry)) (now (further .exit))) ⌝ }
 {
     let Named::Method(named) = text_words::letters::method_by(method) else {
         return 14;
     };
-    let terms = terms_of(named, exercised, draw);
+    let terms = terms_of(named, Contracts(exercised), draw);
     let listed = answer_numbers::form_by(form);
     let answer = listing::allocate(listed, terms, codes, accounts, numbers, amounts);
     match numbers_of(answer) {
@@ -65,10 +65,10 @@ pub extern "C" fn dilbreth_read(
     form: &mut u32,
     positions: &mut usize,
 ) -> u32
-    ensures { λ _. ⌜ now (codes .exit) ≡ after (readInto (now (text .entry)) (length (now (codes .entry))) (length (now (accounts .entry))) (length (now (numbers .entry)))) (λ s. onto (s .codes) (now (codes .entry))) (now (codes .entry)) ⌝ }
-    ensures { λ _. ⌜ now (accounts .exit) ≡ after (readInto (now (text .entry)) (length (now (codes .entry))) (length (now (accounts .entry))) (length (now (numbers .entry)))) (λ s. onto (s .accounts) (now (accounts .entry))) (now (accounts .entry)) ⌝ }
-    ensures { λ _. ⌜ now (numbers .exit) ≡ after (readInto (now (text .entry)) (length (now (codes .entry))) (length (now (accounts .entry))) (length (now (numbers .entry)))) (λ s. onto (s .numbers) (now (numbers .entry))) (now (numbers .entry)) ⌝ }
-    ensures { λ r. ⌜ Reads (readInto (now (text .entry)) (length (now (codes .entry))) (length (now (accounts .entry))) (length (now (numbers .entry)))) r (record { old = now (method .entry); new = now (method .exit) }) (record { old = now (exercised .entry); new = now (exercised .exit) }) (record { old = now (draw .entry); new = now (draw .exit) }) (record { old = now (form .entry); new = now (form .exit) }) (record { old = now (positions .entry); new = now (positions .exit) }) ⌝ }
+    ensures { λ r. ⌜ Reads (readInto (now (text .entry)) (length (now (codes .entry))) (length (now (accounts .entry))) (length (now (numbers .entry)))) r
+        (lent (now (codes .entry)) (now (codes .exit))) (lent (now (accounts .entry)) (now (accounts .exit))) (lent (now (numbers .entry)) (now (numbers .exit)))
+        (lent (now (method .entry)) (now (method .exit))) (lent (now (exercised .entry)) (now (exercised .exit))) (lent (now (draw .entry)) (now (draw .exit)))
+        (lent (now (form .entry)) (now (form .exit))) (lent (now (positions .entry)) (now (positions .exit))) ⌝ }
 {
     match series_text::read(text, codes, accounts, numbers) {
         Reading::Series {
@@ -90,7 +90,7 @@ pub extern "C" fn dilbreth_read(
 
 // Hands the length of a written text back behind an argument, and answers 0 or the number of the refusal.
 fn hand_length(writing: Writing, written: &mut usize) -> u32
-    ensures { λ r. ⌜ (r ≡ status (writingOf writing)) × (now (written .exit) ≡ after (writingOf writing) (λ n. n) (now (written .entry))) ⌝ }
+    ensures { λ r. ⌜ Hands (writingOf writing) r (lent (now (written .entry)) (now (written .exit))) ⌝ }
 {
     match writing {
         Writing::Written(n) => {
@@ -114,12 +114,12 @@ pub extern "C" fn dilbreth_write(
     text: &mut [u8],
     written: &mut usize,
 ) -> u32
-    ensures { λ r. ⌜ Writes (writtenBy (listingBy method form exercised draw (now (codes .entry)) (now (accounts .entry)) (now (numbers .entry))) (length (now (text .entry)))) r (now (text .entry)) (now (text .exit)) (record { old = now (written .entry); new = now (written .exit) }) ⌝ }
+    ensures { λ r. ⌜ Writes (writtenBy (listingBy method form exercised draw (now (codes .entry)) (now (accounts .entry)) (now (numbers .entry))) (length (now (text .entry)))) r (now (text .entry)) (now (text .exit)) (lent (now (written .entry)) (now (written .exit))) ⌝ }
 {
     let Named::Method(named) = text_words::letters::method_by(method) else {
         return 14;
     };
-    let terms = terms_of(named, exercised, draw);
+    let terms = terms_of(named, Contracts(exercised), draw);
     let wanted = answer_numbers::form_by(form);
     let writing = text_writing::write(wanted, terms, codes, accounts, numbers, text);
     hand_length(writing, written)
@@ -128,7 +128,7 @@ pub extern "C" fn dilbreth_write(
 // Changes a text from its form to the other.
 #[no_mangle]
 pub extern "C" fn dilbreth_change(text: &[u8], output: &mut [u8], written: &mut usize) -> u32
-    ensures { λ r. ⌜ Writes (changeInto (now (text .entry)) (length (now (output .entry)))) r (now (output .entry)) (now (output .exit)) (record { old = now (written .entry); new = now (written .exit) }) ⌝ }
+    ensures { λ r. ⌜ Writes (changeInto (now (text .entry)) (length (now (output .entry)))) r (now (output .entry)) (now (output .exit)) (lent (now (written .entry)) (now (written .exit))) ⌝ }
 {
     let writing = form_change::change(text, output);
     hand_length(writing, written)
@@ -137,7 +137,7 @@ pub extern "C" fn dilbreth_change(text: &[u8], output: &mut [u8], written: &mut 
 // Writes what the program prints for a text: the amounts, or the refusal of the text, which is no refusal of this call.
 #[no_mangle]
 pub extern "C" fn dilbreth_respond(text: &[u8], output: &mut [u8], written: &mut usize) -> u32
-    ensures { λ r. ⌜ Writes (printedInto (now (text .entry)) (length (now (output .entry)))) r (now (output .entry)) (now (output .exit)) (record { old = now (written .entry); new = now (written .exit) }) ⌝ }
+    ensures { λ r. ⌜ Writes (printedInto (now (text .entry)) (length (now (output .entry)))) r (now (output .entry)) (now (output .exit)) (lent (now (written .entry)) (now (written .exit))) ⌝ }
 {
     match assignment_text::respond(text, output) {
         Response::Printed(n) => {

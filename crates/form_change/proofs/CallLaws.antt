@@ -3,28 +3,16 @@ use Prim.Native.Nat.{ℕ, _≤_}
 use mathlib.Core.Path.{_≡_, refl, sym, ap, subst, _∙_}
 use mathlib.Core.List.{List}
 use lib.ListN.{length}
-use Rattle.series.specs.Results.{Result, refused, value, after}
-use Rattle.series.specs.Outputs.{onto}
+use Rattle.series.specs.Results.{Result, refused, value}
 use Rattle.series.specs.Places.{total}
 use Rattle.series.specs.Series.{MOST_CONTRACTS}
 use Rattle.series.specs.Refusals.{listVerdict}
 use Rattle.series.specs.declared.Method.{Method}
-use Rattle.series.specs.declared.Terms.{Terms}
 use Rattle.forms.specs.Forms.{Listing, shortsBy, numberIn, listVerdictIn, otherForm, otherNumbers, inOther, changed}
-use Rattle.forms.specs.declared.Form.{Form}
 use Rattle.forms.proofs.FormLaws.{list-facts}
 use Rattle.text_rules.specs.Fields.{Text}
 use Rattle.text_rules.specs.Text.{readText}
-use Rattle.text_rules.specs.Calls.{writeInto, changedInto, changeInto, lengthOf}
-
--- a call that comes to w answers r, and its output goes from old to new
-abbrev pub Writes : Result ℕ → Result Text → List ℕ → List ℕ → Type 0
-Writes r w old new = (r ≡ lengthOf w) × (new ≡ after w (λ s. onto s old) old)
-
--- a refusal writes nothing
-pub refused-writes : (n : ℕ) (w : Result Text) (old : List ℕ) → w ≡ refused n → Writes (refused n) w old old
-unfolding lengthOf
-refused-writes n w old e = (rw e refl, rw e refl)
+use Rattle.text_rules.specs.Calls.{writeInto, changedInto, changeInto, WritingCall}
 
 -- the verdict on the shorts of a listing
 abbrev pub shortsVerdict : Listing → Result ℕ
@@ -55,19 +43,13 @@ text-read s l room e = rw e refl
 
 -- the list was judged, its numbers were made in the other form, and it was written
 pub written-other : (l : Listing) (ns : List ℕ) (r : Result ℕ) (old new : List ℕ) (T : ℕ) → value T ≡ shortsVerdict l → ns ≡ otherNumbers (l .form) (l .numbers)
-    → Writes r (writeInto (record { form = otherForm (l .form); terms = l .terms; codes = l .codes; accounts = l .accounts; numbers = ns }) (length old)) old new → Writes r (changedInto l (length old)) old new
+    → WritingCall (writeInto (record { form = otherForm (l .form); terms = l .terms; codes = l .codes; accounts = l .accounts; numbers = ns }) (length old)) r old new → WritingCall (changedInto l (length old)) r old new
 written-other l ns r old new T judged numbers w =
     let is : writeInto (record { form = otherForm (l .form); terms = l .terms; codes = l .codes; accounts = l .accounts; numbers = ns }) (length old) ≡ changedInto l (length old) =
     ap (λ ms. writeInto (record { form = otherForm (l .form); terms = l .terms; codes = l .codes; accounts = l .accounts; numbers = ms }) (length old)) numbers ∙ sym (list-changed l (length old) T judged)
     in
-    subst (λ v. Writes r v old new) is w
-
--- the same of a form that is told
-pub in-form : (f g : Form) (t : Terms) (codes accounts ns : List ℕ) (r : Result ℕ) (old new : List ℕ) → f ≡ g
-    → Writes r (changedInto (record { form = g; terms = t; codes = codes; accounts = accounts; numbers = ns }) (length old)) old new
-    → Writes r (changedInto (record { form = f; terms = t; codes = codes; accounts = accounts; numbers = ns }) (length old)) old new
-in-form f g t codes accounts ns r old new e w = subst (λ h. Writes r (changedInto (record { form = h; terms = t; codes = codes; accounts = accounts; numbers = ns }) (length old)) old new) (sym e) w
+    subst (λ v. WritingCall v r old new) is w
 
 -- the text was read, and its listing changed
-pub written-text : (s : Text) (l : Listing) (r : Result ℕ) (old new : List ℕ) → readText s ≡ value l → Writes r (changedInto l (length old)) old new → Writes r (changeInto s (length old)) old new
-written-text s l r old new e w = subst (λ v. Writes r v old new) (sym (text-read s l (length old) e)) w
+pub written-text : (s : Text) (l : Listing) (r : Result ℕ) (old new : List ℕ) → readText s ≡ value l → WritingCall (changedInto l (length old)) r old new → WritingCall (changeInto s (length old)) r old new
+written-text s l r old new e w = subst (λ v. WritingCall v r old new) (sym (text-read s l (length old) e)) w

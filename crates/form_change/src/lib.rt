@@ -7,13 +7,11 @@ use text_writing::Writing;
 ghost use mathlib.Core.Path.{_≡_};
 ghost use Prim.Native.Nat.{_≤_};
 ghost use lib.ListN.{length};
-ghost use Rattle.series.specs.Results.{after};
-ghost use Rattle.series.specs.Outputs.{onto};
 ghost use Rattle.series.specs.Places.{total as totalOf};
 ghost use Rattle.series.specs.Series.{MOST_CONTRACTS};
 ghost use Rattle.forms.specs.Forms.{sums};
 ghost use Rattle.forms.specs.declared.Form.{Form as Form·};
-ghost use Rattle.text_rules.specs.Calls.{changedInto, changeInto, lengthOf};
+ghost use Rattle.text_rules.specs.Calls.{changedInto, changeInto, WritingCall};
 ghost use Rattle.text_writing.specs.Answers.{writingOf};
 
 // Fills in the last numbers of shorts: their sums, one position after the other.
@@ -40,8 +38,7 @@ fn change_shorts(
     output: &mut [u8],
 ) -> Writing
     requires { ⌜ length (now lasts) ≡ length (now shorts) ⌝ }
-    ensures { λ r. ⌜ writingOf r ≡ lengthOf (changedInto (record { form = Form·.Shorts; terms = terms; codes = now (codes .entry); accounts = now (accounts .entry); numbers = now (shorts .entry) }) (length (now (output .entry)))) ⌝ }
-    ensures { λ _. ⌜ now (output .exit) ≡ after (changedInto (record { form = Form·.Shorts; terms = terms; codes = now (codes .entry); accounts = now (accounts .entry); numbers = now (shorts .entry) }) (length (now (output .entry)))) (λ s. onto s (now (output .entry))) (now (output .entry)) ⌝ }
+    ensures { λ r. ⌜ WritingCall (changedInto (record { form = Form·.Shorts; terms = terms; codes = now (codes .entry); accounts = now (accounts .entry); numbers = now (shorts .entry) }) (length (now (output .entry)))) (writingOf r) (now (output .entry)) (now (output .exit)) ⌝ }
 {
     let method = terms.method;
     match list_judging::judge_list(method, codes, accounts, shorts) {
@@ -63,8 +60,7 @@ fn change_lasts(
     output: &mut [u8],
 ) -> Writing
     requires { ⌜ length (now shorts) ≡ length (now lasts) ⌝ }
-    ensures { λ r. ⌜ writingOf r ≡ lengthOf (changedInto (record { form = Form·.LastNumbers; terms = terms; codes = now (codes .entry); accounts = now (accounts .entry); numbers = now (lasts .entry) }) (length (now (output .entry)))) ⌝ }
-    ensures { λ _. ⌜ now (output .exit) ≡ after (changedInto (record { form = Form·.LastNumbers; terms = terms; codes = now (codes .entry); accounts = now (accounts .entry); numbers = now (lasts .entry) }) (length (now (output .entry)))) (λ s. onto s (now (output .entry))) (now (output .entry)) ⌝ }
+    ensures { λ r. ⌜ WritingCall (changedInto (record { form = Form·.LastNumbers; terms = terms; codes = now (codes .entry); accounts = now (accounts .entry); numbers = now (lasts .entry) }) (length (now (output .entry)))) (writingOf r) (now (output .entry)) (now (output .exit)) ⌝ }
 {
     forms::fill_shorts(lasts, shorts);
     let method = terms.method;
@@ -89,8 +85,7 @@ fn change_list(
     output: &mut [u8],
 ) -> Writing
     requires { ⌜ length (now others) ≡ length (now numbers) ⌝ }
-    ensures { λ r. ⌜ writingOf r ≡ lengthOf (changedInto (record { form = form; terms = terms; codes = now (codes .entry); accounts = now (accounts .entry); numbers = now (numbers .entry) }) (length (now (output .entry)))) ⌝ }
-    ensures { λ _. ⌜ now (output .exit) ≡ after (changedInto (record { form = form; terms = terms; codes = now (codes .entry); accounts = now (accounts .entry); numbers = now (numbers .entry) }) (length (now (output .entry)))) (λ s. onto s (now (output .entry))) (now (output .entry)) ⌝ }
+    ensures { λ r. ⌜ WritingCall (changedInto (record { form = form; terms = terms; codes = now (codes .entry); accounts = now (accounts .entry); numbers = now (numbers .entry) }) (length (now (output .entry)))) (writingOf r) (now (output .entry)) (now (output .exit)) ⌝ }
 {
     match form {
         Form::Shorts => change_shorts(terms, codes, accounts, numbers, others, output),
@@ -100,8 +95,7 @@ fn change_list(
 
 // Changes a text from its form to the other. A refusal writes nothing, and bytes past the changed text are kept.
 pub fn change(text: &[u8], output: &mut [u8]) -> Writing
-    ensures { λ r. ⌜ writingOf r ≡ lengthOf (changeInto (now (text .entry)) (length (now (output .entry)))) ⌝ }
-    ensures { λ _. ⌜ now (output .exit) ≡ after (changeInto (now (text .entry)) (length (now (output .entry)))) (λ s. onto s (now (output .entry))) (now (output .entry)) ⌝ }
+    ensures { λ r. ⌜ WritingCall (changeInto (now (text .entry)) (length (now (output .entry)))) (writingOf r) (now (output .entry)) (now (output .exit)) ⌝ }
 {
     let mut codes = [0u32; 1024];
     let mut accounts = [0u32; 1024];

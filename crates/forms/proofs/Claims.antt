@@ -5,7 +5,8 @@ use mathlib.Core.List.{List, [], _∷_, map}
 use lib.ListN.{length}
 use Rattle.series.specs.Results.{Result, refused, value}
 use Rattle.series.specs.Sums.{listed}
-use Rattle.series.specs.Refusals.{listVerdict}
+use Rattle.series.specs.Series.{termsOf}
+use Rattle.series.specs.Refusals.{without, listVerdict}
 use Rattle.series.specs.declared.Method.{Method}
 use Rattle.series.specs.declared.Method.the-variants.{Wheel, ProRata, Lottery, RemainderDraw}
 use Rattle.series.proofs.Starred.{Called, calledOn, allocated, turnedAway}
@@ -15,7 +16,7 @@ use Rattle.forms.specs.declared.Form.the-variants.{Shorts, LastNumbers}
 
 -- a listing by its form, method, codes, accounts and numbers, S and the draw
 abbrev lists : Form → Method → List ℕ → List ℕ → List ℕ → ℕ → ℕ → Listing
-lists f m codes accounts ns S draw = record { form = f; terms = record { method = m; exercised = record { 0 = S }; draw = draw }; codes = codes; accounts = accounts; numbers = ns }
+lists f m codes accounts ns S draw = record { form = f; terms = termsOf m S draw; codes = codes; accounts = accounts; numbers = ns }
 
 -- with codes and accounts 1, 2, ..
 unfoldable pub numbered : Form → Method → List ℕ → ℕ → ℕ → Listing
@@ -106,7 +107,7 @@ calls-known = refl
 
 -- the same lists judged alone
 pub judgedIn : Listing → Result ℕ
-unfolding calledIn listVerdict listVerdictIn
+unfolding calledIn without listVerdict listVerdictIn
 judgedIn l = listVerdictIn (l .form) (l .terms .method) (l .codes) (l .accounts) (l .numbers)
 
 pub lists-known : map judgedIn listings ≡

@@ -18,7 +18,7 @@ use Rattle.series.proofs.SumLaws.{total-term}
 use Rattle.series.proofs.ListLaws.{listed-elements}
 use Rattle.series.proofs.PlaceLaws.{last-total}
 use Rattle.series.proofs.RowLaws.{value-passed, value-same}
-use Rattle.series.proofs.AcceptedLaws.{positive, or-false, positions-total}
+use Rattle.series.proofs.AcceptedLaws.{list-verdict, positive, or-false, positions-total}
 use Rattle.forms.specs.Forms.{Listing, differences, sums, shortsBy, seriesIn, numberIn, inForm, listVerdictIn, lastOf, otherForm, otherNumbers, inOther, changed}
 use Rattle.forms.specs.declared.Form.{Form}
 
@@ -84,9 +84,15 @@ module _ (m : Method) (codes accounts hs : List ℕ) (T : ℕ) (v : listVerdict 
   abbrev order : List ℕ
   order = orderedBy m codes accounts
 
-  none : NoneApplies (lengthRows order accounts hs ++ positionRows m [] 0 0 order accounts hs)
-  unfolding listVerdict
-  none = value-passed (lengthRows order accounts hs ++ positionRows m [] 0 0 order accounts hs) (total hs) T v
+  -- the rows of the list, 4 excepted
+  abbrev listRows′ : List Row
+  listRows′ = lengthRows order accounts hs ++ positionRows m [] 0 0 order accounts hs
+
+  judged : first listRows′ (total hs) ≡ value T
+  judged = sym (list-verdict m codes accounts hs) ∙ v
+
+  none : NoneApplies listRows′
+  none = value-passed listRows′ (total hs) T judged
 
   even : (length accounts ≡ length hs) × (length order ≡ length hs)
   unfolding NoneApplies lengthRows
@@ -99,12 +105,12 @@ module _ (m : Method) (codes accounts hs : List ℕ) (T : ℕ) (v : listVerdict 
   positions = none .1 .1 .1
 
   pub list-facts : JudgedList accounts hs T
-  unfolding NoneApplies lengthRows listVerdict
+  unfolding NoneApplies lengthRows
   list-facts =
       record {
         lengths = even .0;
         few = ltb-false _ _ (none .1 .0);
-        sum = sym (value-same (lengthRows order accounts hs ++ positionRows m [] 0 0 order accounts hs) (total hs) T v);
+        sum = sym (value-same listRows′ (total hs) T judged);
         small = omega (arith, positions-total m [] 0 0 order accounts hs (even .0) (even .1) (omega arith) positions);
       }
 

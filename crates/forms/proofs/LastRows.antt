@@ -15,7 +15,7 @@ use Rattle.series.specs.Refusals.{Row, _⟶_∣_, first, NoneApplies, lengthRow
 use Rattle.series.specs.declared.Method.{Method}
 use Rattle.series.specs.declared.Terms.{Terms}
 use Rattle.series.proofs.RowLaws.{passed-value, passed-append, value-same, first-append}
-use Rattle.series.proofs.AcceptedLaws.{or-false}
+use Rattle.series.proofs.AcceptedLaws.{list-verdict, or-false}
 use Rattle.forms.specs.Forms.{Listing, differences, seriesIn, numberIn, inForm, verdictIn, listVerdictIn, lastRows, lastOf, changed}
 use Rattle.forms.specs.declared.Form.{Form}
 use Rattle.forms.proofs.FormLaws.{length-differences, same-number, SixFree, six-free, positions, change-is, same-series}
@@ -114,13 +114,14 @@ length-free order accounts ns = (refl, (refl, (refl, tt)))
 -- judging a list of last numbers: the rows of the length, and then document 02's of each position; T is the last number
 pub by-last-numbers : (m : Method) (codes accounts ns : List ℕ)
     → listVerdictIn Form.LastNumbers m codes accounts ns ≡ first (lengthRows (orderedBy m codes accounts) accounts ns ++ lastRows m [] 0 0 (orderedBy m codes accounts) accounts ns) (lastOf 0 ns)
-unfolding listVerdictIn listVerdict
+unfolding listVerdictIn
 by-last-numbers m codes accounts ns =
     let o = orderedBy m codes accounts in
     let d = differences 0 ns in
     let P = positionRows m [] 0 0 o accounts d in
     let Q = lastRows m [] 0 0 o accounts ns in
-    ap (λ xs. inForm Form.LastNumbers (first (xs ++ P) (total d))) (length-rows o accounts d ns (length-differences 0 ns))
+    ap (inForm Form.LastNumbers) (list-verdict m codes accounts d)
+    ∙ ap (λ xs. inForm Form.LastNumbers (first (xs ++ P) (total d))) (length-rows o accounts d ns (length-differences 0 ns))
     ∙ in-append Form.LastNumbers (lengthRows o accounts ns) P (total d) (length-free o accounts ns)
     ∙ same-after (lengthRows o accounts ns) (λ b. inForm Form.LastNumbers (first P b)) (first Q) (total d) (lastOf 0 ns)
     (λ none. let lengths = even o accounts ns none in from-top m o accounts ns (lengths .0) (lengths .1))
@@ -237,13 +238,14 @@ one-or-two false = refl
 
 -- last numbers that are too many are refused as so many shorts are: alone
 pub long-list : (m : Method) (codes accounts ns : List ℕ) → MOST_POSITIONS < length ns → listVerdict m codes accounts ns ≡ listVerdictIn Form.LastNumbers m codes accounts ns
-unfolding listVerdict listVerdictIn
+unfolding listVerdictIn
 long-list m codes accounts ns many =
     let o = orderedBy m codes accounts in
     let d = differences 0 ns in
-    too-many o accounts ns (length ns) (positionRows m [] 0 0 o accounts ns) (total ns) refl many
+    list-verdict m codes accounts ns
+    ∙ too-many o accounts ns (length ns) (positionRows m [] 0 0 o accounts ns) (total ns) refl many
     ∙ ap refused (sym (one-or-two (uneven o accounts (length ns))))
-    ∙ ap (inForm Form.LastNumbers) (sym (too-many o accounts d (length ns) (positionRows m [] 0 0 o accounts d) (total d) (length-differences 0 ns) many))
+    ∙ ap (inForm Form.LastNumbers) (sym (too-many o accounts d (length ns) (positionRows m [] 0 0 o accounts d) (total d) (length-differences 0 ns) many) ∙ sym (list-verdict m codes accounts d))
 
 -- a call with such a list, which is refused by a number that both forms have
 pub record LongCall (t : Terms) (codes accounts ns : List ℕ) (room : ℕ) : Type 0 where

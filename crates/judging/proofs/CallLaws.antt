@@ -1,6 +1,6 @@
 -- What a judged call asks of its method, and what the method's answer makes of the call.
 use Prim.Native.Nat.{ℕ, _≤_}
-use mathlib.Core.Path.{_≡_, sym, ap, ap₂, subst, _∙_}
+use mathlib.Core.Path.{_≡_, sym, ap, ap₂, _∙_}
 use mathlib.Core.List.{List, _++_}
 use native.Mathlib.Omega.{arith}
 use lib.ListN.{length, take, drop}
@@ -12,8 +12,6 @@ use Rattle.series.specs.Refusals.{NoneApplies, thenDrawRows, verdict}
 use Rattle.series.specs.Answers.{Allocation}
 use Rattle.series.specs.Call.{further, answer, output}
 use Rattle.series.specs.Fair.{AllocatingCall}
-use Rattle.series.specs.declared.Method.{Method}
-use Rattle.series.specs.declared.Terms.{Terms}
 use Rattle.series.proofs.AcceptedLaws.{Facts, accepted-facts, verdict-accepted}
 use Rattle.series.proofs.CallLaws.{verdict-total, verdict-room, draw-passes}
 use Rattle.series.proofs.Demand3.{length-assigned, call-fair}
@@ -55,12 +53,5 @@ module _ (s : Series) (old : List ℕ) where
     call-allocated a vs done =
         let eT = verdict-total s (length old) T (sym v) in
         kept a (vs ++ drop (length (s .shorts)) old)
-        (rw (← v) (done .answered (s .codes) (s .accounts) ∙ ap (λ x. value (record { method = s .terms .method; total = x; further = further s })) eT))
-        (rw (← v) (ap₂ (λ xs n. xs ++ drop n old) (done .written (s .codes) (s .accounts)) (sym (length-assigned s))))
-
--- the call by the method that the terms name
-pub by-method : (t : Terms) (m : Method) (codes accounts shorts : List ℕ) (a : Result Allocation) (old new : List ℕ) → t .method ≡ m
-    → AllocatingCall (record { terms = record { method = m; exercised = t .exercised; draw = t .draw }; codes = codes; accounts = accounts; shorts = shorts }) a old new
-    → AllocatingCall (record { terms = t; codes = codes; accounts = accounts; shorts = shorts }) a old new
-by-method t m codes accounts shorts a old new e =
-    subst (λ (n : Method). AllocatingCall (record { terms = record { method = n; exercised = t .exercised; draw = t .draw }; codes = codes; accounts = accounts; shorts = shorts }) a old new) (sym e)
+        (rw (← v) (done .answered ∙ ap (λ x. value (record { method = s .terms .method; total = x; further = further (s .terms) (s .shorts) })) eT))
+        (rw (← v) (ap₂ (λ xs n. xs ++ drop n old) (done .written) (sym (length-assigned (s .terms) (s .shorts)))))

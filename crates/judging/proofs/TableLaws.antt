@@ -9,9 +9,8 @@ use lib.Dec.{leb}
 use lib.ListN.{length}
 use borrow.Author.Tests.{lt-ltb, le-ltb, le-leb, lt-leb, eq-eqb, ne-eqb}
 use Rattle.series.specs.Results.{Result, refused, value, _>>=_}
-use Rattle.series.specs.Places.{total}
 use Rattle.series.specs.Series.{Series, method, exercised, held, orderedBy, order}
-use Rattle.series.specs.Refusals.{Row, _⟶_∣_, first, NoneApplies, exercisedRows, outside, undrawn, drawRows, thenDrawRows, listRows, rows, verdict}
+use Rattle.series.specs.Refusals.{Row, _⟶_∣_, first, NoneApplies, exercisedRows, outside, undrawn, drawRows, thenDrawRows, listRows, rows, verdict, listVerdictFor}
 use Rattle.series.specs.declared.Method.{Method}
 use Rattle.series.specs.declared.Terms.{Terms}
 use Rattle.judging.specs.Judged.{judgedAfter}
@@ -82,27 +81,27 @@ module _ (t : Terms) (T n : ℕ) where
 -- ---- the whole table
 
 -- where every code is the account, the list rises by its accounts under any method
-pub by-account : (m : Method) (accounts shorts : List ℕ) (room : ℕ) → first (listRows m accounts accounts shorts room) (total shorts) ≡ first (listRows m (orderedBy m accounts accounts) accounts shorts room) (total shorts)
+pub by-account : (m : Method) (accounts shorts : List ℕ) (room : ℕ) → listVerdictFor m accounts accounts shorts room ≡ listVerdictFor m (orderedBy m accounts accounts) accounts shorts room
 by-account Method.Wheel accounts shorts room = refl
 by-account Method.ProRata accounts shorts room = refl
 by-account Method.Lottery accounts shorts room = refl
 by-account Method.RemainderDraw accounts shorts room = refl
 
 -- the list's rows, and then those of what is exercised and of the draw, by the T that is handed on
-verdict-parts : (s : Series) (room : ℕ) → verdict s room ≡ judgedAfter (first (listRows (method s) (order s) (s .accounts) (s .shorts) room) (held s)) (s .terms) (length (s .shorts))
+verdict-parts : (s : Series) (room : ℕ) → verdict s room ≡ judgedAfter (listVerdictFor (method s) (order s) (s .accounts) (s .shorts) room) (s .terms) (length (s .shorts))
 unfolding verdict rows
 verdict-parts s room =
     first-append (listRows (method s) (order s) (s .accounts) (s .shorts) room) (exercisedRows (held s) (exercised s) ++ thenDrawRows (s .terms) (held s) (length (s .shorts))) (held s)
-    ∙ handed-on (first (listRows (method s) (order s) (s .accounts) (s .shorts) room) (held s)) refl
+    ∙ handed-on (listVerdictFor (method s) (order s) (s .accounts) (s .shorts) room) refl
   where
     below : ℕ → List Row
     below T = exercisedRows T (exercised s) ++ thenDrawRows (s .terms) T (length (s .shorts))
 
-    handed-on : (r : Result ℕ) → first (listRows (method s) (order s) (s .accounts) (s .shorts) room) (held s) ≡ r → (r >>= first (below (held s))) ≡ (r >>= (λ T. first (below T) T))
+    handed-on : (r : Result ℕ) → listVerdictFor (method s) (order s) (s .accounts) (s .shorts) room ≡ r → (r >>= first (below (held s))) ≡ (r >>= (λ T. first (below T) T))
     handed-on (refused n) e = refl
     handed-on (value T) e = ap (λ x. first (below x) T) (value-same (listRows (method s) (order s) (s .accounts) (s .shorts) room) (held s) T e)
 
 -- a list that is judged, and then what is exercised and the draw
-pub judged-parts : (s : Series) (room : ℕ) (v list : Result ℕ) → list ≡ first (listRows (method s) (order s) (s .accounts) (s .shorts) room) (held s)
+pub judged-parts : (s : Series) (room : ℕ) (v list : Result ℕ) → list ≡ listVerdictFor (method s) (order s) (s .accounts) (s .shorts) room
     → v ≡ judgedAfter list (s .terms) (length (s .shorts)) → v ≡ verdict s room
 judged-parts s room v list e after = after ∙ ap (λ r. judgedAfter r (s .terms) (length (s .shorts))) e ∙ sym (verdict-parts s room)

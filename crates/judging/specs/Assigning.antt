@@ -8,7 +8,7 @@ use Rattle.series.specs.Answers.{Allocation}
 use Rattle.series.specs.Call.{assigned, further}
 use Rattle.series.specs.declared.Terms.{Terms}
 
--- the answer and the amounts of a series that meets no refusal, whatever its codes and accounts
+-- the answer and the amounts of a series that meets no refusal
 pub record Assigns (t : Terms) (hs : List ℕ) (a : Result Allocation) (vs : List ℕ) : Type 0 where
-  pub answered : (codes accounts : List ℕ) → a ≡ value (record { method = t .method; total = total hs; further = further (record { terms = t; codes = codes; accounts = accounts; shorts = hs }) })
-  pub written : (codes accounts : List ℕ) → vs ≡ assigned (record { terms = t; codes = codes; accounts = accounts; shorts = hs })
+  pub answered : a ≡ value (record { method = t .method; total = total hs; further = further t hs })
+  pub written : vs ≡ assigned t hs

@@ -14,10 +14,8 @@ use series::Method;
 use series::Refusal;
 ghost use Prim.Native.Nat.{_<_};
 ghost use mathlib.Core.Path.{_≡_};
-ghost use mathlib.Core.List.{[]};
 ghost use lib.ListN.{length, getD};
-ghost use Rattle.series.specs.Places.{total as totalOf};
-ghost use Rattle.series.specs.Refusals.{first, accountRefused, positionRows, listRows, listVerdict};
+ghost use Rattle.series.specs.Refusals.{accountRefused, listVerdict, positionsVerdict, listVerdictFor};
 ghost use Rattle.series.specs.Series.{orderedBy};
 ghost use Rattle.series.specs.declared.Method.{Method as Method·};
 ghost use Rattle.rising_lists.specs.Judged.{judgedOf, EvenList};
@@ -49,7 +47,7 @@ fn judge_chained(
     next: &mut [u16; 4096],
 ) -> Judged
     requires { ⌜ EvenList (now codes) (now accounts) (now shorts) × Linked (now accounts) (now head) (now next) 0 ⌝ }
-    ensures { λ r. ⌜ judgedOf r ≡ first (positionRows Method·.Wheel [] 0 0 (now (codes .entry)) (now (accounts .entry)) (now (shorts .entry))) (totalOf (now (shorts .entry))) ⌝ }
+    ensures { λ r. ⌜ judgedOf r ≡ positionsVerdict Method·.Wheel (now (codes .entry)) (now (accounts .entry)) (now (shorts .entry)) ⌝ }
 {
     let mut before = 0;
     let mut left = 10_000_000;
@@ -78,7 +76,7 @@ fn judge_chained(
 // The list under W, its accounts in any order, with chains of its own.
 fn judge_distinct(codes: &[u32], accounts: &[u32], shorts: &[u32]) -> Judged
     requires { ⌜ EvenList (now codes) (now accounts) (now shorts) ⌝ }
-    ensures { λ r. ⌜ judgedOf r ≡ first (positionRows Method·.Wheel [] 0 0 (now (codes .entry)) (now (accounts .entry)) (now (shorts .entry))) (totalOf (now (shorts .entry))) ⌝ }
+    ensures { λ r. ⌜ judgedOf r ≡ positionsVerdict Method·.Wheel (now (codes .entry)) (now (accounts .entry)) (now (shorts .entry)) ⌝ }
 {
     let mut head = [0u16; 4096];
     let mut next = [0u16; 4096];
@@ -87,7 +85,7 @@ fn judge_distinct(codes: &[u32], accounts: &[u32], shorts: &[u32]) -> Judged
 
 // The list under W: it rises by its codes, and its accounts are looked up where they do not rise.
 fn judge_by_code(codes: &[u32], accounts: &[u32], shorts: &[u32], room: usize) -> Judged
-    ensures { λ r. ⌜ judgedOf r ≡ first (listRows Method·.Wheel (now (codes .entry)) (now (accounts .entry)) (now (shorts .entry)) room) (totalOf (now (shorts .entry))) ⌝ }
+    ensures { λ r. ⌜ judgedOf r ≡ listVerdictFor Method·.Wheel (now (codes .entry)) (now (accounts .entry)) (now (shorts .entry)) room ⌝ }
 {
     match judge_rows(codes, accounts, shorts, room) {
         Walk::Judged(judged) => judged,
@@ -97,7 +95,7 @@ fn judge_by_code(codes: &[u32], accounts: &[u32], shorts: &[u32], room: usize) -
 
 // Judges a list by its method, also against room, the length of an output.
 pub fn judge(method: Method, codes: &[u32], accounts: &[u32], shorts: &[u32], room: usize) -> Judged
-    ensures { λ r. ⌜ judgedOf r ≡ first (listRows method (orderedBy method (now (codes .entry)) (now (accounts .entry))) (now (accounts .entry)) (now (shorts .entry)) room) (totalOf (now (shorts .entry))) ⌝ }
+    ensures { λ r. ⌜ judgedOf r ≡ listVerdictFor method (orderedBy method (now (codes .entry)) (now (accounts .entry))) (now (accounts .entry)) (now (shorts .entry)) room ⌝ }
 {
     match method {
         Method::Wheel => judge_by_code(codes, accounts, shorts, room),

@@ -53,16 +53,16 @@ pub called-too-long : (t : Terms) (codes accounts ns : List ℕ) (a : Result All
 unfolding answer output
 called-too-long t codes accounts ns a old new many call =
     let long = long-call t codes accounts ns (length old) many in
-    let refusal : a ≡ refused (long .number) = call .answered ∙ ap (λ v. v >>= (λ T. value (record { method = t .method; total = T; further = further (record { terms = t; codes = codes; accounts = accounts; shorts = ns }) }))) (long .by-numbers) in
+    let refusal : a ≡ refused (long .number) = call .answered ∙ ap (λ v. v >>= (λ T. value (record { method = t .method; total = T; further = further t ns }))) (long .by-numbers) in
     record {
       answered =
           refusal
           ∙ ap refused (sym (long .both))
-          ∙ ap (λ v. inForm Form.LastNumbers (v >>= (λ T. value (record { method = t .method; total = T; further = further (seriesOf t codes accounts ns) })))) (sym (long .by-shorts));
+          ∙ ap (λ v. inForm Form.LastNumbers (v >>= (λ T. value (record { method = t .method; total = T; further = further t (differences 0 ns) })))) (sym (long .by-shorts));
       written =
           call .written
-          ∙ ap (λ v. after v (λ _. onto (assigned (record { terms = t; codes = codes; accounts = accounts; shorts = ns })) old) old) (long .by-numbers)
-          ∙ ap (λ v. after v (λ _. onto (assigned (seriesOf t codes accounts ns)) old) old) (sym (long .by-shorts));
+          ∙ ap (λ v. after v (λ _. onto (assigned t ns) old) old) (long .by-numbers)
+          ∙ ap (λ v. after v (λ _. onto (assigned t (differences 0 ns)) old) old) (sym (long .by-shorts));
       fair = subst (λ r. FairOutput r (seriesOf t codes accounts ns) new) (sym refusal) tt;
     }
 

@@ -16,6 +16,6 @@ pub pro-rata-gives : (t : Terms) (hs out : List ℕ) (T : ℕ) → JudgedSeries 
 unfolding further assigned
 pro-rata-gives t hs out T judged e r vs er ev =
     record {
-      answered = λ codes accounts. rw e (ap₂ (λ x f. value (record { method = Method.ProRata; total = x; further = some f })) (judged .sum) er);
-      written = λ codes accounts. rw e ev;
+      answered = rw e (ap₂ (λ x f. value (record { method = Method.ProRata; total = x; further = some f })) (judged .sum) er);
+      written = rw e ev;
     }

@@ -6,7 +6,6 @@ use mathlib.Core.List.{List}
 use lib.ListN.{length, getD}
 use Rattle.series.specs.Series.{MOST_CONTRACTS, MOST_POSITIONS}
 use Rattle.series.specs.Sums.{sumBelow, listed}
-use Rattle.series.specs.Places.{total}
 use Rattle.series.specs.ProRata.{roundOne, decimals, larger, equal}
 use Rattle.pro_rata.specs.declared.rounds.Percentage.{Percentage}
 use Rattle.pro_rata.specs.declared.rounds.RoundTwo.{RoundTwo}

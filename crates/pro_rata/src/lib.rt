@@ -5,15 +5,16 @@ use judging::Judged;
 use series::Answer;
 use series::Contracts;
 use series::Method;
-use series::Terms;
+use series::terms_of;
 ghost use Prim.Native.Nat.{ℕ};
 ghost use mathlib.Core.List.{List};
-ghost use lib.ListN.{length};
 ghost use Rattle.series.specs.Answers.{answerOf};
 ghost use Rattle.series.specs.Fair.{AllocatingCall};
+ghost use Rattle.series.specs.Series.{Given};
 ghost use Rattle.series.specs.declared.Method.{Method as Method·};
+ghost use Rattle.series.specs.declared.Terms.{Terms as Terms·};
 
-// Assigns the exercised contracts pro rata, amounts in list order; or the first refusal that applies, and then amounts keeps its elements. No code is looked at: the promise holds whatever the codes.
+// Assigns the exercised contracts pro rata, amounts in list order; or the first refusal that applies, and then amounts keeps its elements. No code is looked at, nor what terms may have beside their method, S and the draw: the promise holds whatever these are.
 pub fn allocate(
     exercised: Contracts,
     draw: u32,
@@ -21,13 +22,9 @@ pub fn allocate(
     shorts: &[u32],
     amounts: &mut [u32],
 ) -> Answer
-    ensures { λ r. ⌜ ((codes : List ℕ) → AllocatingCall (record { terms = record { method = Method·.ProRata; exercised = exercised; draw = draw }; codes = codes; accounts = now (accounts .entry); shorts = now (shorts .entry) }) (answerOf r) (now (amounts .entry)) (now (amounts .exit))) ⌝ }
+    ensures { λ r. ⌜ ((t : Terms·) (codes : List ℕ) → Given t Method·.ProRata (exercised .0) draw → AllocatingCall (record { terms = t; codes = codes; accounts = now (accounts .entry); shorts = now (shorts .entry) }) (answerOf r) (now (amounts .entry)) (now (amounts .exit))) ⌝ }
 {
-    let terms = Terms {
-        method: Method::ProRata,
-        exercised,
-        draw,
-    };
+    let terms = terms_of(Method::ProRata, exercised, draw);
     match judging::judge_uncoded(terms, accounts, shorts, amounts.len()) {
         Judged::Refused(refusal) => Answer::Refused(refusal),
         Judged::Accepted(total) => {

@@ -1,10 +1,13 @@
 -- Document 01's case M in full, what is printed for refusals for numbers with leading zeros and for last numbers, proved of the definitions by computation.
+use Prim.Native.Nat.{ℕ}
 use Prim.Native.String.{String}
 use mathlib.Core.Path.{_≡_, refl}
 use mathlib.Core.List.{List, [], _∷_, map}
 use Rattle.series.specs.Ascii.{ascii}
+use Rattle.series.specs.Results.{Result}
 use Rattle.series.specs.Sums.{bit, listed}
 use Rattle.series.specs.Places.{total, next, run, within, marked, before, last, amounts}
+use Rattle.series.specs.Series.{Series}
 use Rattle.series.specs.Wheel.{wheel}
 use Rattle.series.specs.Lottery.{startingPlace, lottery, unstarted, lotteryAmounts}
 use Rattle.series.specs.RemainderDraw.{remainderPlace, firstRange, secondRange}
@@ -12,12 +15,13 @@ use Rattle.series.specs.Refusals.{first, lengthRows, roomRows, standsIn, accoun
 use Rattle.series.specs.Call.{assigned}
 use Rattle.forms.specs.Forms.{differences}
 use Rattle.text_rules.specs.Numbers.{digit, digits, spelled, amountFrom, amount, numeral, number, decimalIn, decimal}
-use Rattle.text_rules.specs.Fields.{Text, ends, field, past, fieldBy, endBefore, readFields, writeNumber}
-use Rattle.text_rules.specs.Rows.{numbers, readRow, readRows, writeRow, writeRows, rowsOf, column}
-use Rattle.text_rules.specs.Names.{namesLine, afterLine, headingOr, readNames}
+use Rattle.text_rules.specs.Fields.{Text, Read, ends, field, past, fieldBy, endBefore, readFields, writeNumber}
+use Rattle.text_rules.specs.Rows.{numbers, readRow, readRows, writeRows, rowsOf, column, writeParted}
+use Rattle.text_rules.specs.Names.{termsLine, codeName, accountName, formName, accountLine, positionsLine, afterLine, namesOr, readNames}
 use Rattle.text_rules.specs.Letters.{letter, methodAmong, methodBy, methodOf}
 use Rattle.text_rules.specs.Text.{readTerms, readHead, readPositions, readText}
 use Rattle.responses.specs.Printed.{refusedLines, assignedLines, rangeColumns, rangeLines, rangesBy, seriesOrRefusal, textOrRefusal, linesFor, printed}
+use Rattle.responses.specs.Responses.{printInto}
 
 -- a text, and what is printed for it
 pub record Case : Type 0 where
@@ -84,11 +88,26 @@ cases =
     prints "method,exercised,draw\nL,13,4855\naccount,last\n" "refused\n3\n" ∷
     []
 
--- the line `unfolding` names every definition that printing computes with
+-- the lines `unfolding` name every definition that printing computes with: the call, the rows and names lines of a text, and what is printed
+calling : Series → ℕ → Result ℕ
+unfolding bit listed total next run within marked before last amounts wheel startingPlace lottery unstarted lotteryAmounts remainderPlace firstRange secondRange first lengthRows roomRows standsIn accountRefused positionRows exercisedRows outside undrawn drawRows thenDrawRows listRows rows verdict assigned
+calling s room = verdict s room
+
+reading : ℕ → Text → Result (Read (List ℕ))
+unfolding digit digits spelled amountFrom amount numeral number decimalIn decimal ends field past fieldBy endBefore readFields writeNumber numbers readRow readRows writeParted writeRows rowsOf column termsLine codeName accountName formName accountLine positionsLine afterLine namesOr readNames
+reading k s = readRow k s
+
 printing : Text → Text
-unfolding bit listed total next run within marked before last amounts wheel startingPlace lottery unstarted lotteryAmounts remainderPlace firstRange secondRange first lengthRows roomRows standsIn accountRefused positionRows exercisedRows outside undrawn drawRows thenDrawRows listRows rows verdict assigned digit digits spelled amountFrom amount numeral number decimalIn decimal ends field past fieldBy endBefore readFields writeNumber numbers readRow readRows writeRow writeRows rowsOf column namesLine afterLine headingOr readNames letter methodAmong methodBy methodOf readTerms readHead readPositions readText refusedLines assignedLines rangeColumns rangeLines rangesBy seriesOrRefusal textOrRefusal linesFor printed ascii differences
+unfolding calling reading letter methodAmong methodBy methodOf readTerms readHead readPositions readText refusedLines assignedLines rangeColumns rangeLines rangesBy seriesOrRefusal textOrRefusal linesFor printed ascii differences
 printing s = printed s
 
 pub known : map (λ c. printed (c .input)) cases ≡ map (λ c. c .output) cases
 unfolding cases printing
 known = refl
+
+-- ---- the room for what is printed
+
+-- lines of 11 bytes that tell 12: with room for them, for one more, for one less and for none
+pub printed-to-room : map (printInto (ascii "refused\n12\n") 12) (11 ∷ 12 ∷ 10 ∷ 0 ∷ []) ≡ record { written = 11; refusal = 12 } ∷ record { written = 11; refusal = 12 } ∷ record { written = 0; refusal = 4 } ∷ record { written = 0; refusal = 4 } ∷ []
+unfolding ascii printInto
+printed-to-room = refl

@@ -1,6 +1,6 @@
 -- What is printed for any text: at least a line, and at most 70,705 bytes.
 use Prim.Native.Nat.{ℕ, _^_, _≤_, _<_}
-use mathlib.Core.Path.{_≡_, refl, ap, subst}
+use mathlib.Core.Path.{_≡_, refl, subst}
 use mathlib.Core.List.{List, [], _∷_, _++_}
 use native.Mathlib.Omega.{arith}
 use borrow.Author.Tests.{le-ltb}
@@ -23,14 +23,14 @@ use Rattle.series.proofs.ResultLaws.{stepped, value-is}
 use Rattle.forms.specs.Forms.{Listing, seriesIn, inForm}
 use Rattle.forms.proofs.FormLaws.{value-in}
 use Rattle.text_rules.specs.Fields.{Text}
-use Rattle.text_rules.specs.Rows.{writeRow, writeRows, rowOf, rowsOf}
+use Rattle.text_rules.specs.Rows.{writeRow, writeRows, rowOf, rowsOf, writeParted}
 use Rattle.text_rules.specs.Text.{MOST_LINES, readText}
 use Rattle.text_rules.specs.Calls.{lineCount}
 use Rattle.text_rules.proofs.DecimalLaws.{digits-few, digits-within}
 use Rattle.text_rules.proofs.RowLaws.{row-few}
 use Rattle.text_rules.proofs.LengthLaws.{length-row, lines-most, rows-room}
 use Rattle.responses.specs.Printed.{refusedLines, assignedLines, rangeColumns, rangeLines, rangesBy, seriesOrRefusal, textOrRefusal, linesFor, printed, MOST_PRINTED}
-use Rattle.responses.specs.Responses.{Printing, responseOf, printInto, Responds, Whole}
+use Rattle.responses.specs.Responses.{responseOf, printInto, Responds, Whole}
 use Rattle.responses.specs.declared.Response.{Response}
 use Rattle.text_rules.proofs.ReadingLaws.{few-positions}
 
@@ -56,7 +56,7 @@ assigned-room accounts amounts few =
 
 -- the account's line among the ranges: ten digits, and eight for each number up to 20,000,001
 range-row : (a f l g m : ℕ) → f < 10 ^ 8 → l < 10 ^ 8 → g < 10 ^ 8 → m < 10 ^ 8 → length (writeRow (a ∷ f ∷ l ∷ g ∷ m ∷ [])) ≤ 47
-unfolding writeRow
+unfolding writeParted
 range-row a f l g m hf hl hg hm =
     omega (
       arith,
@@ -106,11 +106,11 @@ ranges-room t s = by-cases (method t)
     by-cases Method.Lottery = omega arith
     by-cases Method.RemainderDraw = range-room (t .accounts) (t .shorts) (s .same) (s .few) (s .contracts)
 
-assigned-printable : (t : Series) → Small t → Printable (length (assignedLines (t .accounts) (assigned t) ++ rangesBy (method t) (t .accounts) (t .shorts)))
+assigned-printable : (t : Series) → Small t → Printable (length (assignedLines (t .accounts) (assigned (t .terms) (t .shorts)) ++ rangesBy (method t) (t .accounts) (t .shorts)))
 unfolding assignedLines ascii
 assigned-printable t s =
-    let both = length-append (assignedLines (t .accounts) (assigned t)) (rangesBy (method t) (t .accounts) (t .shorts)) in
-    record { some = omega arith; most = omega (arith, both, assigned-room (t .accounts) (assigned t) (s .few), ranges-room t s) }
+    let both = length-append (assignedLines (t .accounts) (assigned (t .terms) (t .shorts))) (rangesBy (method t) (t .accounts) (t .shorts)) in
+    record { some = omega arith; most = omega (arith, both, assigned-room (t .accounts) (assigned (t .terms) (t .shorts)) (s .few), ranges-room t s) }
 
 lines-printable : (r : Result Series) → ((t : Series) → r ≡ value t → Small t) → Printable (length (linesFor r))
 unfolding linesFor
@@ -133,15 +133,13 @@ pub printed-room : (s : Text) → Printable (length (printed s))
 unfolding printed
 printed-room s = lines-printable (textOrRefusal s) (small-in-text s)
 
--- all that is printed stands in an output with room for it
-pub responds-whole : (t : Text) (r : Response) (v : ℕ) (old new : Text) → length t ≤ length old → Responds r t v old new → Whole (responseOf r .written) t new
+-- what is printed stands whole in an output with room for it
+pub responds-whole : (t : Text) (r : Response) (v : ℕ) (old new : Text) → length t ≤ length old → Responds r t v old new → Whole (responseOf r) t v new
 unfolding printInto ontoRoom onto
 responds-whole t r v old new room p =
     let fits = le-ltb (length old) (length t) room in
-    let hands : responseOf r ≡ record { written = length t; refusal = v } = rw fits at (p .hands) in
-    let written : responseOf r .written ≡ length t = ap (λ (h : Printing). h .written) hands in
     let output : new ≡ t ++ drop (length t) old = rw fits at (p .output) in
-    record { bytes = written; text = rw (written, output) (take-at t (drop (length t) old) (length t) refl) }
+    record { handed = rw fits at (p .hands); text = rw output (take-at t (drop (length t) old) (length t) refl) }
 
-pub printed-whole : (s : Text) (r : Response) (v : ℕ) (old new : Text) → MOST_PRINTED ≤ length old → Responds r (printed s) v old new → Whole (responseOf r .written) (printed s) new
+pub printed-whole : (s : Text) (r : Response) (v : ℕ) (old new : Text) → MOST_PRINTED ≤ length old → Responds r (printed s) v old new → Whole (responseOf r) (printed s) v new
 printed-whole s r v old new room p = responds-whole (printed s) r v old new (omega (arith, printed-room s .most)) p

@@ -56,7 +56,7 @@ textOrRefusal s = do
 
 -- what is printed for either
 unfoldable pub linesFor : Result Series → Text
-linesFor (value t) = assignedLines (t .accounts) (assigned t) ++ rangesBy (method t) (t .accounts) (t .shorts)
+linesFor (value t) = assignedLines (t .accounts) (assigned (t .terms) (t .shorts)) ++ rangesBy (method t) (t .accounts) (t .shorts)
 linesFor (refused n) = refusedLines n
 
 -- what is printed for a text

@@ -6,8 +6,10 @@ use lib.Dec.{ltb}
 use lib.ListN.{length, take}
 use Rattle.series.specs.Answers.{numberOf}
 use Rattle.series.specs.Outputs.{ontoRoom}
-use Rattle.series.specs.Results.{Result, refused, value}
+use Rattle.series.specs.Results.{Result, refused, value, status}
+use Rattle.series.specs.Series.{Series}
 use Rattle.text_rules.specs.Fields.{Text}
+use Rattle.responses.specs.Printed.{linesFor}
 use Rattle.responses.specs.declared.Response.{Response}
 
 -- how many bytes are printed, and the number of the refusal, 0 where there is none
@@ -34,7 +36,11 @@ pub record Responds (r : Response) (s : Text) (refusal : ℕ) (old new : Text) :
   pub hands : responseOf r ≡ printInto s refusal (length old)
   pub output : new ≡ ontoRoom s old
 
--- an output that holds new has the whole text s in its first n bytes
-pub record Whole (n : ℕ) (s new : Text) : Type 0 where
-  pub bytes : n ≡ length s
-  pub text : take n new ≡ s
+-- the answer r has printed what is printed for a series or for its refusal
+abbrev pub RespondsFor : Response → Result Series → Text → Text → Type 0
+RespondsFor r x old new = Responds r (linesFor x) (status x) old new
+
+-- p hands back the whole text s, which tells this refusal or 0, and an output that holds new begins with it
+pub record Whole (p : Printing) (s : Text) (refusal : ℕ) (new : Text) : Type 0 where
+  pub handed : p ≡ record { written = length s; refusal = refusal }
+  pub text : take (length s) new ≡ s

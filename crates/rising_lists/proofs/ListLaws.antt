@@ -13,7 +13,7 @@ use borrow.Author.Tests.{lt-ltb, le-ltb, le-leb, lt-leb, eq-eqb, ne-eqb, ltb-tru
 use Rattle.series.specs.Results.{Result, refused, value}
 use Rattle.series.specs.Places.{total}
 use Rattle.series.specs.Series.{MOST_POSITIONS, MOST_CONTRACTS}
-use Rattle.series.specs.Refusals.{Row, first, NoneApplies, lengthRows, roomRows, standsIn, accountRefused, positionRows, listRows}
+use Rattle.series.specs.Refusals.{Row, first, NoneApplies, lengthRows, roomRows, standsIn, accountRefused, positionRows, listRows, positionsVerdict, listVerdictFor}
 use Rattle.series.specs.declared.Method.{Method}
 use Rattle.rising_lists.specs.Judged.{judgedOf, EvenList, walkTells, fallsLate}
 use Rattle.rising_lists.specs.declared.Walk.{Walk}
@@ -32,12 +32,12 @@ pub record Judging (m : Method) (order accounts shorts : List ℕ) (before left 
   pub on-list : i ≤ length shorts
   pub left-most : left ≤ MOST_CONTRACTS
   pub sum-is : MOST_CONTRACTS + total (drop i shorts) ≡ left + total shorts
-  pub rows-are : first (positionRows m [] 0 0 order accounts shorts) (total shorts) ≡ first (positionRows m (earlier accounts i) before (MOST_CONTRACTS - left) (drop i order) (drop i accounts) (drop i shorts)) (total shorts)
+  pub rows-are : positionsVerdict m order accounts shorts ≡ first (positionRows m (earlier accounts i) before (MOST_CONTRACTS - left) (drop i order) (drop i accounts) (drop i shorts)) (total shorts)
 
 module _ (m : Method) (order accounts shorts : List ℕ) where
   -- the verdict on the positions
   abbrev verdict-of : Result ℕ
-  verdict-of = first (positionRows m [] 0 0 order accounts shorts) (total shorts)
+  verdict-of = positionsVerdict m order accounts shorts
 
   pub judging-start : Judging m order accounts shorts 0 MOST_CONTRACTS 0
   unfolding downFrom
@@ -175,7 +175,7 @@ module _ (order accounts shorts : List ℕ) (before highest left i : ℕ) (r : R
 
 module _ (m : Method) (order accounts shorts : List ℕ) (room : ℕ) where
   abbrev list-verdict : Result ℕ
-  list-verdict = first (listRows m order accounts shorts room) (total shorts)
+  list-verdict = listVerdictFor m order accounts shorts room
 
   uneven : (not (eqb (length accounts) (length shorts)) || not (eqb (length order) (length shorts))) ≡ true → refused 1 ≡ list-verdict
   unfolding listRows lengthRows NoneApplies rowAt
@@ -212,15 +212,15 @@ module _ (m : Method) (order accounts shorts : List ℕ) (room : ℕ) where
           unfolding listRows lengthRows roomRows NoneApplies rowAt
           refused-room h = sym (refused-at 3 (listRows m order accounts shorts room) (total shorts) (one, (two, (three, tt))) (lt-ltb room (length shorts) h))
 
-          pub judged-positions : length shorts ≤ room → (v : Result ℕ) → v ≡ first (positionRows m [] 0 0 order accounts shorts) (total shorts) → v ≡ list-verdict
+          pub judged-positions : length shorts ≤ room → (v : Result ℕ) → v ≡ positionsVerdict m order accounts shorts → v ≡ list-verdict
           unfolding listRows lengthRows roomRows NoneApplies
           judged-positions fits v e =
               e ∙ sym (passed-first 4 (listRows m order accounts shorts room) (total shorts) (one, (two, (three, (le-ltb room (length shorts) fits, tt)))))
 
 -- a walk tells of the list what it tells of the positions
 pub walked : (w : Walk) (order accounts shorts : List ℕ) (room : ℕ) → EvenList order accounts shorts → (length shorts ≡ 0 → ⊥) → length shorts ≤ room
-    → ((m : Method) → walkTells w (first (positionRows m [] 0 0 order accounts shorts) (total shorts)))
-    → ((m : Method) → walkTells w (first (listRows m order accounts shorts room) (total shorts))) × fallsLate w order accounts shorts room
+    → ((m : Method) → walkTells w (positionsVerdict m order accounts shorts))
+    → ((m : Method) → walkTells w (listVerdictFor m order accounts shorts room)) × fallsLate w order accounts shorts room
 walked (Walk.Judged j) order accounts shorts room even some fits told =
     (λ m. judged-positions m order accounts shorts room (even .lengths) (even .ordered) (even .few) some fits (judgedOf j) (told m), tt)
 walked Walk.Falls order accounts shorts room even some fits told =

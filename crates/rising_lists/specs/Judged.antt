@@ -1,12 +1,11 @@
 -- What judging a list answers, and what the walks over its positions tell.
 use Prim.Native.Nat.{ℕ, _≤_}
 use mathlib.Core.Path.{_≡_}
-use mathlib.Core.List.{List, []}
+use mathlib.Core.List.{List}
 use lib.ListN.{length}
 use Rattle.series.specs.Results.{Result, refused, value}
-use Rattle.series.specs.Places.{total}
 use Rattle.series.specs.Series.{MOST_POSITIONS}
-use Rattle.series.specs.Refusals.{first, positionRows, listRows}
+use Rattle.series.specs.Refusals.{positionsVerdict, listVerdictFor}
 use Rattle.series.specs.Answers.{numberOf}
 use Rattle.series.specs.declared.Method.{Method}
 use Rattle.rising_lists.specs.declared.Judged.{Judged}
@@ -38,4 +37,4 @@ abbrev pub fallsLate : Walk → List ℕ → List ℕ → List ℕ → ℕ → T
 fallsLate (Walk.Judged j) order accounts shorts room = Unit {0}
 fallsLate Walk.Falls order accounts shorts room =
     EvenList order accounts shorts
-    × ((m : Method) → first (listRows m order accounts shorts room) (total shorts) ≡ first (positionRows m [] 0 0 order accounts shorts) (total shorts))
+    × ((m : Method) → listVerdictFor m order accounts shorts room ≡ positionsVerdict m order accounts shorts)

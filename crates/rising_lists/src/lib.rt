@@ -3,10 +3,8 @@ use series::Contracts;
 use series::Refusal;
 ghost use mathlib.Core.Path.{_≡_};
 ghost use mathlib.Core.Bool.{_||_, cond};
-ghost use mathlib.Core.List.{[]};
 ghost use lib.Dec.{eqb, ltb};
-ghost use Rattle.series.specs.Places.{total as totalOf};
-ghost use Rattle.series.specs.Refusals.{first, positionRows, listRows};
+ghost use Rattle.series.specs.Refusals.{positionsVerdict, listVerdictFor};
 ghost use Rattle.series.specs.Answers.{numberOf};
 ghost use Rattle.series.specs.declared.Method.{Method as Method·};
 ghost use Rattle.rising_lists.specs.Judged.{judgedOf, walkTells, fallsOnly, fallsLate, EvenList};
@@ -44,7 +42,7 @@ pub fn refuse_shorts(count: u32) -> Refusal
 // The list, each position in turn, while its accounts rise too.
 fn judge_rising(order: &[u32], accounts: &[u32], shorts: &[u32]) -> Walk
     requires { ⌜ EvenList (now order) (now accounts) (now shorts) ⌝ }
-    ensures { λ r. ⌜ ((m : Method·) → walkTells r (first (positionRows m [] 0 0 (now (order .entry)) (now (accounts .entry)) (now (shorts .entry))) (totalOf (now (shorts .entry))))) ⌝ }
+    ensures { λ r. ⌜ ((m : Method·) → walkTells r (positionsVerdict m (now (order .entry)) (now (accounts .entry)) (now (shorts .entry)))) ⌝ }
     ensures { λ r. ⌜ fallsOnly r (now (order .entry)) (now (accounts .entry)) ⌝ }
 {
     let mut before = 0;
@@ -74,7 +72,7 @@ fn judge_rising(order: &[u32], accounts: &[u32], shorts: &[u32]) -> Walk
 
 // The list, which rises by `order`: its length, also against the length of the output; then each position, while its accounts rise too.
 pub fn judge_rows(order: &[u32], accounts: &[u32], shorts: &[u32], room: usize) -> Walk
-    ensures { λ r. ⌜ ((m : Method·) → walkTells r (first (listRows m (now (order .entry)) (now (accounts .entry)) (now (shorts .entry)) room) (totalOf (now (shorts .entry))))) ⌝ }
+    ensures { λ r. ⌜ ((m : Method·) → walkTells r (listVerdictFor m (now (order .entry)) (now (accounts .entry)) (now (shorts .entry)) room)) ⌝ }
     ensures { λ r. ⌜ fallsOnly r (now (order .entry)) (now (accounts .entry)) ⌝ }
     ensures { λ r. ⌜ fallsLate r (now (order .entry)) (now (accounts .entry)) (now (shorts .entry)) room ⌝ }
 {
@@ -98,7 +96,7 @@ pub fn judge_rows(order: &[u32], accounts: &[u32], shorts: &[u32], room: usize) 
 
 // Judges a list under P, L and R, also against room, the length of an output: it rises by its accounts, so that none falls without 5. The promise holds for W too, where every code is its account.
 pub fn judge_by_account(accounts: &[u32], shorts: &[u32], room: usize) -> Judged
-    ensures { λ r. ⌜ ((m : Method·) → judgedOf r ≡ first (listRows m (now (accounts .entry)) (now (accounts .entry)) (now (shorts .entry)) room) (totalOf (now (shorts .entry)))) ⌝ }
+    ensures { λ r. ⌜ ((m : Method·) → judgedOf r ≡ listVerdictFor m (now (accounts .entry)) (now (accounts .entry)) (now (shorts .entry)) room) ⌝ }
 {
     match judge_rows(accounts, accounts, shorts, room) {
         Walk::Judged(judged) => judged,

@@ -9,8 +9,8 @@ use lib.ListN.{length}
 use borrow.Author.Tests.{ltb-false, eqb-false, eqb-true, not-false}
 use Rattle.series.specs.Results.{value}
 use Rattle.series.specs.Places.{total}
-use Rattle.series.specs.Series.{Series, MOST_POSITIONS, MOST_CONTRACTS, method, exercised, held, redrawn, order}
-use Rattle.series.specs.Refusals.{Row, NoneApplies, leftAside, aside, lengthRows, roomRows, positionRows, exercisedRows, undrawn, drawRows, thenDrawRows, listRows, rows, Accepted, verdict}
+use Rattle.series.specs.Series.{Series, MOST_POSITIONS, MOST_CONTRACTS, method, exercised, held, redrawn, orderedBy, order}
+use Rattle.series.specs.Refusals.{Row, NoneApplies, standsIn, without, lengthRows, roomRows, positionRows, exercisedRows, undrawn, drawRows, thenDrawRows, listRows, rows, listVerdict, Accepted, first, verdict}
 use Rattle.series.specs.declared.Method.{Method}
 use Rattle.series.specs.declared.Terms.{Terms}
 use Rattle.series.proofs.RowLaws.{value-passed, passed-append}
@@ -34,54 +34,87 @@ pub record Facts (s : Series) : Type 0 where
   pub exercised-some : 0 < exercised s
   pub exercised-most : exercised s ≤ held s
 
-aside-append : (xs ys : List Row) → aside (xs ++ ys) ≡ aside xs ++ aside ys
-unfolding aside
-aside-append [] ys = refl
-aside-append (x ∷ xs) ys = step (leftAside x) (aside-append xs ys)
+-- ---- rows without those of some numbers
+
+pub without-append : (ns : List ℕ) (xs ys : List Row) → without ns (xs ++ ys) ≡ without ns xs ++ without ns ys
+unfolding without
+without-append ns [] ys = refl
+without-append ns (x ∷ xs) ys = step (standsIn (x .number) ns) (without-append ns xs ys)
   where
-    step : (b : Bool) → aside (xs ++ ys) ≡ aside xs ++ aside ys → cond b (aside (xs ++ ys)) (x ∷ aside (xs ++ ys)) ≡ cond b (aside xs) (x ∷ aside xs) ++ aside ys
+    step : (b : Bool) → without ns (xs ++ ys) ≡ without ns xs ++ without ns ys → cond b (without ns (xs ++ ys)) (x ∷ without ns (xs ++ ys)) ≡ cond b (without ns xs) (x ∷ without ns xs) ++ without ns ys
     step true h = h
     step false h = ap (x ∷_) h
 
-aside-positions : (m : Method) (earlier : List ℕ) (before sum : ℕ) (order accounts shorts : List ℕ) → aside (positionRows m earlier before sum order accounts shorts) ≡ positionRows m earlier before sum order accounts shorts
-unfolding aside leftAside positionRows
-aside-positions m earlier before sum [] rest hs = refl
-aside-positions m earlier before sum (k ∷ ks) [] hs = refl
-aside-positions m earlier before sum (k ∷ ks) (a ∷ rest) [] = refl
-aside-positions m earlier before sum (k ∷ ks) (a ∷ rest) (h ∷ hs) = rw (aside-positions m (a ∷ earlier) k (sum + h) ks rest hs)
-
-aside-draw : (t : Terms) (T : ℕ) → aside (drawRows t T) ≡ []
-unfolding drawRows aside leftAside
-aside-draw t T = by-cases (t .method) refl
+-- what is left out of rows that all fail leaves rows that all fail
+pub without-passed : (ns : List ℕ) (xs : List Row) → NoneApplies xs → NoneApplies (without ns xs)
+unfolding without NoneApplies
+without-passed ns [] h = tt
+without-passed ns (x ∷ xs) h = step (standsIn (x .number) ns) (without-passed ns xs (h .1))
   where
-    by-cases : (m : Method) → t .method ≡ m → aside (drawRows t T) ≡ []
+    step : (b : Bool) → NoneApplies (without ns xs) → NoneApplies (cond b (without ns xs) (x ∷ without ns xs))
+    step true k = k
+    step false k = (h .0, k)
+
+-- none of the positions' numbers is left out
+pub record KeepsPositions (ns : List ℕ) : Type 0 where
+  pub five : standsIn 5 ns ≡ false
+  pub nineteen : standsIn 19 ns ≡ false
+  pub six : standsIn 6 ns ≡ false
+  pub seven : standsIn 7 ns ≡ false
+
+pub without-positions : (ns : List ℕ) → KeepsPositions ns → (m : Method) (earlier : List ℕ) (before sum : ℕ) (order accounts shorts : List ℕ)
+    → without ns (positionRows m earlier before sum order accounts shorts) ≡ positionRows m earlier before sum order accounts shorts
+unfolding without positionRows
+without-positions ns keeps m earlier before sum [] rest hs = refl
+without-positions ns keeps m earlier before sum (k ∷ ks) [] hs = refl
+without-positions ns keeps m earlier before sum (k ∷ ks) (a ∷ rest) [] = refl
+without-positions ns keeps m earlier before sum (k ∷ ks) (a ∷ rest) (h ∷ hs) =
+    rw (keeps .five, keeps .nineteen, keeps .six, keeps .seven, without-positions ns keeps m (a ∷ earlier) k (sum + h) ks rest hs)
+
+-- a list alone is judged by its lengths and its positions
+pub list-verdict : (m : Method) (codes accounts shorts : List ℕ)
+    → listVerdict m codes accounts shorts ≡ first (lengthRows (orderedBy m codes accounts) accounts shorts ++ positionRows m [] 0 0 (orderedBy m codes accounts) accounts shorts) (total shorts)
+unfolding listVerdict listRows lengthRows roomRows without standsIn
+list-verdict m codes accounts shorts =
+    ap (λ zs. first (lengthRows (orderedBy m codes accounts) accounts shorts ++ zs) (total shorts))
+    (without-positions (4 ∷ []) (record { five = refl; nineteen = refl; six = refl; seven = refl }) m [] 0 0 (orderedBy m codes accounts) accounts shorts)
+
+-- ---- what an accepted series has
+
+draw-left : (t : Terms) (T : ℕ) → without (4 ∷ 10 ∷ []) (drawRows t T) ≡ []
+unfolding drawRows without standsIn
+draw-left t T = by-cases (t .method) refl
+  where
+    by-cases : (m : Method) → t .method ≡ m → without (4 ∷ 10 ∷ []) (drawRows t T) ≡ []
     by-cases Method.Wheel e = rw e refl
     by-cases Method.ProRata e = rw e refl
     by-cases Method.Lottery e = rw e refl
     by-cases Method.RemainderDraw e = rw e refl
 
-aside-then-draw : (t : Terms) (T n : ℕ) → aside (thenDrawRows t T n) ≡ []
-unfolding thenDrawRows aside
-aside-then-draw t T n = step (undrawn t T n)
+then-draw-left : (t : Terms) (T n : ℕ) → without (4 ∷ 10 ∷ []) (thenDrawRows t T n) ≡ []
+unfolding thenDrawRows without
+then-draw-left t T n = step (undrawn t T n)
   where
-    step : (b : Bool) → aside (cond b [] (drawRows t T)) ≡ []
+    step : (b : Bool) → without (4 ∷ 10 ∷ []) (cond b [] (drawRows t T)) ≡ []
     step true = refl
-    step false = aside-draw t T
+    step false = draw-left t T
 
 -- the rows that are left: neither the draw nor the room is in them
-aside-rows : (s : Series) (room : ℕ) → aside (rows s room) ≡ lengthRows (order s) (s .accounts) (s .shorts) ++ (positionRows (method s) [] 0 0 (order s) (s .accounts) (s .shorts) ++ exercisedRows (held s) (exercised s))
-unfolding aside leftAside rows listRows lengthRows roomRows exercisedRows
-aside-rows s room =
+rows-left : (s : Series) (room : ℕ)
+    → without (4 ∷ 10 ∷ []) (rows s room) ≡ lengthRows (order s) (s .accounts) (s .shorts) ++ (positionRows (method s) [] 0 0 (order s) (s .accounts) (s .shorts) ++ exercisedRows (held s) (exercised s))
+unfolding without standsIn rows listRows lengthRows roomRows exercisedRows
+rows-left s room =
     let list : List Row = positionRows (method s) [] 0 0 (order s) (s .accounts) (s .shorts) in
     let terms : List Row = exercisedRows (held s) (exercised s) ++ thenDrawRows (s .terms) (held s) (length (s .shorts)) in
+    let kept : KeepsPositions (4 ∷ 10 ∷ []) = record { five = refl; nineteen = refl; six = refl; seven = refl } in
     ap (λ zs. lengthRows (order s) (s .accounts) (s .shorts) ++ zs)
-    (aside-append list terms
-    ∙ ap₂ (λ xs ys. xs ++ ys) (aside-positions (method s) [] 0 0 (order s) (s .accounts) (s .shorts)) (ap (λ zs. exercisedRows (held s) (exercised s) ++ zs) (aside-then-draw (s .terms) (held s) (length (s .shorts)))))
+    (without-append (4 ∷ 10 ∷ []) list terms
+    ∙ ap₂ (λ xs ys. xs ++ ys) (without-positions (4 ∷ 10 ∷ []) kept (method s) [] 0 0 (order s) (s .accounts) (s .shorts)) (ap (λ zs. exercisedRows (held s) (exercised s) ++ zs) (then-draw-left (s .terms) (held s) (length (s .shorts)))))
 
 -- what is accepted depends on neither the draw nor the room
-pub accepted-any : (s : Series) (d room room2 : ℕ) → Accepted s room → Accepted (redrawn d s) room2
+pub accepted-any : (s : Series) (d room room2 : ℕ) → Accepted s room → Accepted (record { terms = redrawn d (s .terms); codes = s .codes; accounts = s .accounts; shorts = s .shorts }) room2
 unfolding Accepted redrawn
-accepted-any s d room room2 ok = subst NoneApplies (aside-rows s room ∙ sym (aside-rows (redrawn d s) room2)) ok
+accepted-any s d room room2 ok = subst NoneApplies (rows-left s room ∙ sym (rows-left (record { terms = redrawn d (s .terms); codes = s .codes; accounts = s .accounts; shorts = s .shorts }) room2)) ok
 
 -- positions that no row turns away have a sum of at most 10,000,000
 pub positions-total : (m : Method) (earlier : List ℕ) (before sum : ℕ) (order accounts shorts : List ℕ) → length accounts ≡ length shorts → length order ≡ length shorts → sum ≤ MOST_CONTRACTS
@@ -97,13 +130,13 @@ positions-total m earlier before sum (k ∷ ks) (a ∷ rest) (x ∷ hs) la lk s 
 pub positions-pass : (s : Series) (room : ℕ) → Accepted s room → NoneApplies (positionRows (method s) [] 0 0 (order s) (s .accounts) (s .shorts))
 unfolding Accepted NoneApplies lengthRows
 positions-pass s room ok =
-    let left = subst NoneApplies (aside-rows s room) ok in
+    let left = subst NoneApplies (rows-left s room) ok in
     passed-append (positionRows (method s) [] 0 0 (order s) (s .accounts) (s .shorts)) (exercisedRows (held s) (exercised s)) (left .1 .1 .1) .0
 
 pub accepted-facts : (s : Series) (room : ℕ) → Accepted s room → Facts s
 unfolding Accepted NoneApplies lengthRows exercisedRows
 accepted-facts s room ok =
-    let left = subst NoneApplies (aside-rows s room) ok in
+    let left = subst NoneApplies (rows-left s room) ok in
     let list = passed-append (positionRows (method s) [] 0 0 (order s) (s .accounts) (s .shorts)) (exercisedRows (held s) (exercised s)) (left .1 .1 .1) in
     let even = or-false _ _ (left .0) in
     let same : length (s .accounts) ≡ length (s .shorts) = eqb-true _ _ (not-false _ (even .0)) in
@@ -121,16 +154,7 @@ accepted-facts s room ok =
       exercised-most = most-exercised;
     }
 
-aside-passed : (xs : List Row) → NoneApplies xs → NoneApplies (aside xs)
-unfolding aside NoneApplies
-aside-passed [] h = tt
-aside-passed (x ∷ xs) h = step (leftAside x) (aside-passed xs (h .1))
-  where
-    step : (b : Bool) → NoneApplies (aside xs) → NoneApplies (cond b (aside xs) (x ∷ aside xs))
-    step true k = k
-    step false k = (h .0, k)
-
 -- a call that meets no refusal is of an accepted series
 pub verdict-accepted : (s : Series) (room T : ℕ) → verdict s room ≡ value T → Accepted s room
 unfolding verdict Accepted
-verdict-accepted s room T h = aside-passed (rows s room) (value-passed (rows s room) (held s) T h)
+verdict-accepted s room T h = without-passed (4 ∷ 10 ∷ []) (rows s room) (value-passed (rows s room) (held s) T h)

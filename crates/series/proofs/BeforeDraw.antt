@@ -6,6 +6,7 @@ use mathlib.Core.List.{List, [], _∷_, _++_, map, append-assoc}
 use native.Mathlib.Omega.{arith}
 use lib.ListN.{length}
 use Rattle.series.specs.Results.{Result, refused, value, _>>=_}
+use Rattle.series.specs.Places.{total}
 use Rattle.series.specs.Series.{Series, method, exercised, draw, held, byMethod, order}
 use Rattle.series.specs.Wheel.{wheel}
 use Rattle.series.specs.ProRata.{proRata}
@@ -91,13 +92,13 @@ module _ (s : Series) (room : ℕ) where
       ∙ first-append above draws (held s)
 
 -- and under L, and so under R, every amount came from the starting place
-pub earlierAssigned : Series → List ℕ
-earlierAssigned s =
-    byMethod (method s)
-    (wheel INCREMENT (s .shorts) (exercised s) (draw s))
-    (proRata (s .shorts) (exercised s) (draw s))
-    (lottery (s .shorts) (exercised s) (startingPlace (held s) (draw s)))
-    (lottery (s .shorts) (exercised s) (remainderPlace (held s) (draw s)))
+pub earlierAssigned : Terms → List ℕ → List ℕ
+earlierAssigned t hs =
+    byMethod (t .method)
+    (wheel INCREMENT hs (t .exercised .0) (t .draw))
+    (proRata hs (t .exercised .0) (t .draw))
+    (lottery hs (t .exercised .0) (startingPlace (total hs) (t .draw)))
+    (lottery hs (t .exercised .0) (remainderPlace (total hs) (t .draw)))
 
 -- ---- rows below a result r, and none where b
 
@@ -191,7 +192,7 @@ module _ (s : Series) (room : ℕ) where
   still-allocated T h = now-parts ∙ value-stays (first (above s room) (held s)) b draws T (sym earlier-parts ∙ h)
 
   -- with the same amounts
-  pub same-amounts : (T : ℕ) → earlierVerdict s room ≡ value T → assigned s ≡ earlierAssigned s
+  pub same-amounts : (T : ℕ) → earlierVerdict s room ≡ value T → assigned (s .terms) (s .shorts) ≡ earlierAssigned (s .terms) (s .shorts)
   unfolding assigned earlierAssigned
   same-amounts T h = by-cases (method s) refl
     where
@@ -201,7 +202,7 @@ module _ (s : Series) (room : ℕ) where
       drawn : NoneApplies draws
       drawn = let step = stepped (first (above s room) (held s)) (first draws) T (sym earlier-parts ∙ h) in value-passed draws (step .from) T (step .on)
 
-      by-cases : (m : Method) → method s ≡ m → assigned s ≡ earlierAssigned s
+      by-cases : (m : Method) → method s ≡ m → assigned (s .terms) (s .shorts) ≡ earlierAssigned (s .terms) (s .shorts)
       by-cases Method.Wheel e = rw e refl
       by-cases Method.ProRata e = rw e refl
       by-cases Method.Lottery e = rw e (lottery-amounts (s .shorts) (exercised s) (startingPlace (held s) (draw s)) (starting-on (held s) (draw s) (facts .total-some) (lottery-draw (s .terms) (held s) e drawn)))

@@ -11,7 +11,7 @@ use borrow.Author.Tests.{ne-eqb, lt-ltb, le-ltb, leb-false, eqb-false}
 use Rattle.series.specs.Sums.{sumBelow}
 use Rattle.series.specs.Places.{total, before, last}
 use Rattle.series.specs.Series.{Series, method, order}
-use Rattle.series.specs.Refusals.{Row, first, NoneApplies, lengthRows, roomRows, listRows, standsIn, accountRefused, positionRows, Accepted}
+use Rattle.series.specs.Refusals.{Row, first, NoneApplies, lengthRows, roomRows, listRows, standsIn, accountRefused, positionRows, Accepted, listVerdictFor}
 use Rattle.series.specs.declared.Method.{Method}
 use Rattle.series.proofs.RowLaws.{same-below}
 use Rattle.series.proofs.SumLaws.{sum-cong, sum-const, sum-split}
@@ -153,7 +153,7 @@ positions-alike m m′ earlier b sum (a ∷ rest) (x ∷ hs) T h = go (leb a b) 
         rw (ne-eqb a 0 some, e, not-refused m b a earlier h lt, not-refused m′ b a earlier h lt, below lt) refl
 
 -- a list whose codes are its accounts is judged alike under every method: so under W as it was before there were codes, and 19 is not met
-pub codes-are-accounts : (m m′ : Method) (accounts hs : List ℕ) (room : ℕ) → first (listRows m accounts accounts hs room) (total hs) ≡ first (listRows m′ accounts accounts hs room) (total hs)
+pub codes-are-accounts : (m m′ : Method) (accounts hs : List ℕ) (room : ℕ) → listVerdictFor m accounts accounts hs room ≡ listVerdictFor m′ accounts accounts hs room
 unfolding listRows AtMost
 codes-are-accounts m m′ accounts hs room =
     let rows : Method → List Row = λ k. positionRows k [] 0 0 accounts accounts hs in

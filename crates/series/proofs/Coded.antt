@@ -3,8 +3,8 @@ use Prim.Native.Nat.{ℕ}
 use mathlib.Core.Path.{_≡_, refl}
 use mathlib.Core.List.{List, [], _∷_, map}
 use Rattle.series.specs.Results.{Result, refused, value}
-use Rattle.series.specs.Series.{Series, method}
-use Rattle.series.specs.Refusals.{listVerdict}
+use Rattle.series.specs.Series.{Series, termsOf, method}
+use Rattle.series.specs.Refusals.{without, listVerdict}
 use Rattle.series.specs.declared.Method.{Method}
 use Rattle.series.specs.declared.Method.the-variants.{Wheel, ProRata, Lottery}
 use Rattle.series.proofs.Starred.{calledOn, allocated, turnedAway}
@@ -13,7 +13,7 @@ use Rattle.series.proofs.Starred.{calledOn, allocated, turnedAway}
 abbrev coded : Method → List ℕ → List ℕ → List ℕ → ℕ → ℕ → Series
 coded m codes accounts shorts S draw =
     record {
-      terms = record { method = m; exercised = record { 0 = S }; draw = draw };
+      terms = termsOf m S draw;
       codes = codes;
       accounts = accounts;
       shorts = shorts;
@@ -75,7 +75,7 @@ calls-known = refl
 
 -- the same lists judged alone
 pub judgedAlone : Series → Result ℕ
-unfolding calledOn listVerdict
+unfolding calledOn without listVerdict
 judgedAlone s = listVerdict (method s) (s .codes) (s .accounts) (s .shorts)
 
 pub lists-known : map judgedAlone calls ≡

@@ -10,7 +10,7 @@ use Rattle.series.specs.Sums.{sumBelow, bit, countBelow, listed}
 use Rattle.series.specs.Places.{total}
 use Rattle.series.specs.Series.{Series, exercised, MOST_POSITIONS, MOST_CONTRACTS}
 use Rattle.series.specs.ProRata.{percentage, assignmentAmount, wholePart, decimalPart, roundOne, decimals, remainder, larger, equal, Tie, roundTwo, proRata}
-use Rattle.series.specs.CutOff.{atLeast, cutOff, cutOffIn, RunsOutAt, roundTwoByCutOff}
+use Rattle.series.specs.CutOff.{atLeast, cutOffIn, RunsOutAt, roundTwoByCutOff}
 use Rattle.series.specs.Refusals.{Accepted}
 use Rattle.series.proofs.SumLaws.{listed-cong}
 use Rattle.series.proofs.AcceptedLaws.{Facts, accepted-facts}

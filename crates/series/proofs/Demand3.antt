@@ -22,6 +22,7 @@ use Rattle.series.specs.Refusals.{verdict, Accepted}
 use Rattle.series.specs.Call.{INCREMENT, assigned, further, answer, output}
 use Rattle.series.specs.Fair.{Near, Fair, FairOutput}
 use Rattle.series.specs.declared.Method.{Method}
+use Rattle.series.specs.declared.Terms.{Terms}
 use Rattle.series.proofs.AcceptedLaws.{Facts, accepted-facts, verdict-accepted}
 use Rattle.series.proofs.CallLaws.{draw-passes, wheel-judged, lottery-judged, wheel-draw, lottery-draw, starting-on}
 use Rattle.series.proofs.SumLaws.{sum-cong, length-listed}
@@ -87,15 +88,15 @@ module _ (s : Series) (room : ℕ) (ok : Accepted s room) where
       let share = pro-rata-share (s .shorts) (exercised s) some-total (facts .total-most) (facts .few) (facts .exercised-most) d i h in
       record { below = share .0; above = share .1 }
 
-pub length-assigned : (s : Series) → length (assigned s) ≡ length (s .shorts)
+pub length-assigned : (t : Terms) (hs : List ℕ) → length (assigned t hs) ≡ length hs
 unfolding assigned proRata
-length-assigned s = by-cases (method s) refl
+length-assigned t hs = by-cases (t .method) refl
   where
-    by-cases : (m : Method) → method s ≡ m → length (assigned s) ≡ length (s .shorts)
-    by-cases Method.Wheel e = rw e (length-wheel INCREMENT (s .shorts) (exercised s) (draw s))
-    by-cases Method.ProRata e = rw e (length-listed _ (length (s .shorts)))
-    by-cases Method.Lottery e = rw e (length-lottery-amounts (s .shorts) (exercised s) (startingPlace (held s) (draw s)))
-    by-cases Method.RemainderDraw e = rw e (length-lottery-amounts (s .shorts) (exercised s) (remainderPlace (held s) (draw s)))
+    by-cases : (m : Method) → t .method ≡ m → length (assigned t hs) ≡ length hs
+    by-cases Method.Wheel e = rw e (length-wheel INCREMENT hs (t .exercised .0) (t .draw))
+    by-cases Method.ProRata e = rw e (length-listed _ (length hs))
+    by-cases Method.Lottery e = rw e (length-lottery-amounts hs (t .exercised .0) (startingPlace (total hs) (t .draw)))
+    by-cases Method.RemainderDraw e = rw e (length-lottery-amounts hs (t .exercised .0) (remainderPlace (total hs) (t .draw)))
 
 -- the amounts vs are those from a place on the wheel
 pub record FromPlace (T : ℕ) (from : ℕ → List ℕ) (vs : List ℕ) : Type 0 where
@@ -154,12 +155,12 @@ module _ (s : Series) (room T : ℕ) (v : verdict s room ≡ value T) where
       by-cases false u k = let same : q ≡ p = cc in rw (← same) (drawn u)
 
   -- L: a starting place that is handed back is a place on the wheel
-  pub start-on-wheel : method s ≡ Method.Lottery → (p : ℕ) → further s ≡ some p → OnWheel (held s) p
+  pub start-on-wheel : method s ≡ Method.Lottery → (p : ℕ) → further (s .terms) (s .shorts) ≡ some p → OnWheel (held s) p
   unfolding further
   start-on-wheel e p h = used-on-wheel (startingPlace (held s) (draw s)) (lottery-drawn e) p (rw e at h)
 
   -- R: so it is
-  pub remainder-on-wheel : method s ≡ Method.RemainderDraw → (p : ℕ) → further s ≡ some p → OnWheel (held s) p
+  pub remainder-on-wheel : method s ≡ Method.RemainderDraw → (p : ℕ) → further (s .terms) (s .shorts) ≡ some p → OnWheel (held s) p
   unfolding further
   remainder-on-wheel e p h = used-on-wheel (remainderPlace (held s) (draw s)) remainder-drawn p (rw e at h)
 
@@ -175,15 +176,15 @@ module _ (s : Series) (room T : ℕ) (v : verdict s room ≡ value T) where
         near = λ e. absurd (other e);
       }
 
-  assigned-fair : Fair s (assigned s)
+  assigned-fair : Fair s (assigned (s .terms) (s .shorts))
   unfolding assigned
   assigned-fair = by-cases (method s) refl
     where
       -- the amounts vs are those of the method
-      fair-by : (vs : List ℕ) → assigned s ≡ vs → Fair s vs → Fair s (assigned s)
+      fair-by : (vs : List ℕ) → assigned (s .terms) (s .shorts) ≡ vs → Fair s vs → Fair s (assigned (s .terms) (s .shorts))
       fair-by vs is fair = rw is fair
 
-      by-cases : (m : Method) → method s ≡ m → Fair s (assigned s)
+      by-cases : (m : Method) → method s ≡ m → Fair s (assigned (s .terms) (s .shorts))
       by-cases Method.Wheel e = fair-by _ (rw e refl) (fair-from (wheel INCREMENT (s .shorts) (exercised s)) _ (wheel-from e) (λ p. let z : _≡_ {A = ℕ} 0 1 = cc in omega arith) (wheel-adds-up s room ok) (wheel-at-most s room ok))
       by-cases Method.ProRata e =
           fair-by (proRata (s .shorts) (exercised s) (draw s)) (rw e refl) (record {
@@ -195,19 +196,19 @@ module _ (s : Series) (room T : ℕ) (v : verdict s room ≡ value T) where
       by-cases Method.RemainderDraw e = fair-by _ (rw e refl) (fair-from (lottery (s .shorts) (exercised s)) _ remainder-from (λ p. let z : _≡_ {A = ℕ} 0 1 = cc in omega arith) (lottery-adds-up s room ok) (lottery-at-most s room ok))
 
 -- R: summed over the draws 0 to T - 1, the amounts of the calls are a position's shorts times S.
-pub remainder-shares : (s : Series) (room : ℕ) → Accepted s room → method s ≡ Method.RemainderDraw → (i : ℕ) → i < length (s .shorts) → sumBelow (λ d. getD (assigned (redrawn d s)) i 0) (held s) ≡ getD (s .shorts) i 0 * exercised s
+pub remainder-shares : (s : Series) (room : ℕ) → Accepted s room → method s ≡ Method.RemainderDraw → (i : ℕ) → i < length (s .shorts) → sumBelow (λ d. getD (assigned (redrawn d (s .terms)) (s .shorts)) i 0) (held s) ≡ getD (s .shorts) i 0 * exercised s
 unfolding overPlaces assigned redrawn
 remainder-shares s room ok e i h =
-    sum-cong (λ d. getD (assigned (redrawn d s)) i 0) (λ d. getD (lottery (s .shorts) (exercised s) (suc d)) i 0) (held s) (λ d l. ap (λ vs. getD vs i 0) (each d l)) ∙ lottery-shares s room ok i h
+    sum-cong (λ d. getD (assigned (redrawn d (s .terms)) (s .shorts)) i 0) (λ d. getD (lottery (s .shorts) (exercised s) (suc d)) i 0) (held s) (λ d l. ap (λ vs. getD vs i 0) (each d l)) ∙ lottery-shares s room ok i h
   where
     -- the draw d leads to the place d + 1
-    each : (d : ℕ) → d < held s → assigned (redrawn d s) ≡ lottery (s .shorts) (exercised s) (suc d)
+    each : (d : ℕ) → d < held s → assigned (redrawn d (s .terms)) (s .shorts) ≡ lottery (s .shorts) (exercised s) (suc d)
     each d l = rw (e, remainder-of (held s) d l) (lottery-amounts (s .shorts) (exercised s) (suc d) (record { low = omega arith; high = l }))
 
 -- a call that is not turned away
 allocation-fair : (s : Series) (old : List ℕ) (T : ℕ) → verdict s (length old) ≡ value T → FairOutput (answer s (length old)) s (output s old)
 unfolding answer output onto
-allocation-fair s old T e = rw (e, take-at (assigned s) (drop (length (assigned s)) old) (length (s .shorts)) (length-assigned s)) (assigned-fair s (length old) T e)
+allocation-fair s old T e = rw (e, take-at (assigned (s .terms) (s .shorts)) (drop (length (assigned (s .terms) (s .shorts))) old) (length (s .shorts)) (length-assigned (s .terms) (s .shorts))) (assigned-fair s (length old) T e)
 
 -- a call that is
 refusal-fair : (s : Series) (old : List ℕ) (n : ℕ) → verdict s (length old) ≡ refused n → FairOutput (answer s (length old)) s (output s old)

@@ -2,6 +2,7 @@
 pub mod Demand3
 pub mod Starred
 pub mod Readings
+pub mod Limits
 pub mod BeforeDraw
 pub mod OnePosition
 pub mod CodeLaws

@@ -8,7 +8,7 @@ use Rattle.series.specs.Wheel.{interval}
 use Rattle.series.specs.ProRata.{percentage}
 use Rattle.series.specs.Lottery.{unstarted}
 use Rattle.series.specs.Results.{Result, refused}
-use Rattle.series.specs.Series.{Series}
+use Rattle.series.specs.Series.{Series, termsOf}
 use Rattle.series.specs.Refusals.{first, lengthRows, roomRows, standsIn, accountRefused, positionRows, exercisedRows, outside, undrawn, drawRows, thenDrawRows, listRows, rows, verdict}
 use Rattle.series.specs.declared.Method.{Method}
 use Rattle.series.specs.declared.Method.the-variants.{Wheel, Lottery}
@@ -28,14 +28,14 @@ pub record Call : Type 0 where
   pub series : Series
   pub room : ℕ
 
-abbrev call : Method → List ℕ → List ℕ → ℕ → ℕ → ℕ → Call
+abbrev pub call : Method → List ℕ → List ℕ → ℕ → ℕ → ℕ → Call
 call m accounts shorts S draw room =
     record {
-      series = record { terms = record { method = m; exercised = record { 0 = S }; draw = draw }; codes = accounts; accounts = accounts; shorts = shorts };
+      series = record { terms = termsOf m S draw; codes = accounts; accounts = accounts; shorts = shorts };
       room = room;
     }
 
-pub verdictOn : Call → Result ℕ
+unfoldable pub verdictOn : Call → Result ℕ
 unfolding total unstarted first lengthRows roomRows standsIn accountRefused positionRows exercisedRows outside undrawn drawRows thenDrawRows listRows rows verdict
 verdictOn c = verdict (c .series) (c .room)
 

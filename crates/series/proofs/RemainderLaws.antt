@@ -1,6 +1,6 @@
 -- The remainder draw: the places that draws lead to, L's amounts from the same places, and L's refusals but 10.
 use Prim.Native.Nat.{ℕ, suc, _+_, _-_, _<_}
-use mathlib.Core.Path.{_≡_, refl, sym, ap, _∙_}
+use mathlib.Core.Path.{_≡_, refl, sym, ap, ap₂, _∙_}
 use mathlib.Core.Bool.{Bool, true, false, cond}
 use mathlib.Core.List.{List, [], _++_}
 use native.Mathlib.Omega.{arith}
@@ -9,13 +9,13 @@ use lib.ListN.{length}
 use borrow.Author.Tests.{ne-eqb, le-ltb}
 use Rattle.series.specs.Results.{_>>=_}
 use Rattle.series.specs.Places.{total, OnWheel}
-use Rattle.series.specs.Series.{Series, method, exercised, draw, held}
+use Rattle.series.specs.Series.{orderedBy}
 use Rattle.series.specs.Lottery.{startingPlace, unstarted}
 use Rattle.series.specs.RemainderDraw.{remainderPlace}
 use Rattle.series.specs.Refusals.{Row, _⟶_∣_, first, exercisedRows, outside, undrawn, drawRows, thenDrawRows, listRows, rows, verdict}
 use Rattle.series.specs.Call.{assigned, further}
 use Rattle.series.specs.declared.Method.{Method}
-use Rattle.series.specs.declared.Contracts.{Contracts}
+use Rattle.series.specs.declared.Terms.{Terms}
 use Rattle.series.proofs.RowLaws.{first-append, same-below}
 use Rattle.series.proofs.CodeLaws.{codes-are-accounts}
 
@@ -39,36 +39,44 @@ unfolding remainderPlace
 turn-higher T draw = ap (_+ 1) (add-mod-right draw T)
 
 -- L and R from equal starting places give equal amounts, and hand the same place back
-pub equal-starts : (l r : Series) → method l ≡ Method.Lottery → method r ≡ Method.RemainderDraw → l .shorts ≡ r .shorts → exercised l ≡ exercised r
-    → startingPlace (held l) (draw l) ≡ remainderPlace (held r) (draw r) → (assigned l ≡ assigned r) × (further l ≡ further r)
+pub equal-starts : (l r : Terms) (hs : List ℕ) → l .method ≡ Method.Lottery → r .method ≡ Method.RemainderDraw → l .exercised .0 ≡ r .exercised .0
+    → startingPlace (total hs) (l .draw) ≡ remainderPlace (total hs) (r .draw) → (assigned l hs ≡ assigned r hs) × (further l hs ≡ further r hs)
 unfolding assigned further
-equal-starts l r el er shorts S start = (rw (el, er, start, shorts, S) refl, rw (el, er, start, shorts, S) refl)
+equal-starts l r hs el er S start = (rw (el, er, start, S) refl, rw (el, er, start, S) refl)
 
--- R meets the refusals of L with a draw of 1 to 10,000, whatever its own draw, and whatever the codes of both
-module _ (S : Contracts) (draw good : ℕ) (on : OnWheel 10000 good) (codes codes′ accounts hs : List ℕ) (room : ℕ) where
-  abbrev r : Series
-  r = record { terms = record { method = Method.RemainderDraw; exercised = S; draw = draw }; codes = codes; accounts = accounts; shorts = hs }
+-- R meets the refusals of L with the same S and a draw of 1 to 10,000, whatever its own draw, and whatever the codes of both
+module _ (r l : Terms) (er : r .method ≡ Method.RemainderDraw) (el : l .method ≡ Method.Lottery) (same : r .exercised .0 ≡ l .exercised .0) (on : OnWheel 10000 (l .draw))
+    (codes codes′ accounts hs : List ℕ) (room : ℕ) where
+  -- the rows of the draw, and those below the list's
+  draws : Terms → List Row
+  draws t = thenDrawRows t (total hs) (length hs)
 
-  abbrev l : Series
-  l = record { terms = record { method = Method.Lottery; exercised = S; draw = good }; codes = codes′; accounts = accounts; shorts = hs }
+  below : Terms → List Row
+  below t = exercisedRows (total hs) (l .exercised .0) ++ draws t
 
-  -- the rows below the list's
-  abbrev below : Series → List Row
-  below s = exercisedRows (total hs) (S .0) ++ thenDrawRows (s .terms) (total hs) (length hs)
-
-  draws-alike : first (thenDrawRows (r .terms) (total hs) (length hs)) (total hs) ≡ first (thenDrawRows (l .terms) (total hs) (length hs)) (total hs)
-  unfolding thenDrawRows drawRows undrawn outside first
-  draws-alike = let some : good ≡ 0 → ⊥ = λ z. omega (arith, on .low) in rw (ne-eqb good 0 some, le-ltb 10000 good (on .high)) (by-cases (unstarted (total hs) (length hs) (S .0)))
+  draws-alike : first (draws r) (total hs) ≡ first (draws l) (total hs)
+  unfolding draws thenDrawRows drawRows undrawn outside first
+  draws-alike =
+      let some : l .draw ≡ 0 → ⊥ = λ z. omega (arith, on .low) in
+      rw (er, el, same, ne-eqb (l .draw) 0 some, le-ltb 10000 (l .draw) (on .high)) (by-cases (unstarted (total hs) (length hs) (l .exercised .0)))
     where
       by-cases : (u : Bool) → first (cond u [] []) (total hs) ≡ first (cond u [] (false ⟶ 10 ∣ [])) (total hs)
       by-cases true = refl
       by-cases false = refl
 
-  pub judged-as-lottery : verdict r room ≡ verdict l room
-  unfolding verdict rows
+  -- a verdict by the method and S that the terms have
+  in-parts : (t : Terms) (m : Method) (cs : List ℕ) → t .method ≡ m → t .exercised .0 ≡ l .exercised .0
+      → verdict (record { terms = t; codes = cs; accounts = accounts; shorts = hs }) room ≡ first (listRows m (orderedBy m cs accounts) accounts hs room ++ below t) (total hs)
+  unfolding verdict rows below draws
+  in-parts t m cs em eS = ap₂ (λ n S. first (listRows n (orderedBy n cs accounts) accounts hs room ++ (exercisedRows (total hs) S ++ draws t)) (total hs)) em eS
+
+  pub judged-as-lottery : verdict (record { terms = r; codes = codes; accounts = accounts; shorts = hs }) room ≡ verdict (record { terms = l; codes = codes′; accounts = accounts; shorts = hs }) room
+  unfolding below
   judged-as-lottery =
       let list : Method → List Row = λ m. listRows m accounts accounts hs room in
-      first-append (list Method.RemainderDraw) (below r) (total hs)
+      in-parts r Method.RemainderDraw codes er same
+      ∙ first-append (list Method.RemainderDraw) (below r) (total hs)
       ∙ ap (λ v. v >>= first (below r)) (codes-are-accounts Method.RemainderDraw Method.Lottery accounts hs room)
       ∙ sym (first-append (list Method.Lottery) (below r) (total hs))
-      ∙ same-below (list Method.Lottery) (below r) (below l) (total hs) (same-below (exercisedRows (total hs) (S .0)) (thenDrawRows (r .terms) (total hs) (length hs)) (thenDrawRows (l .terms) (total hs) (length hs)) (total hs) draws-alike)
+      ∙ same-below (list Method.Lottery) (below r) (below l) (total hs) (same-below (exercisedRows (total hs) (l .exercised .0)) (draws r) (draws l) (total hs) draws-alike)
+      ∙ sym (in-parts l Method.Lottery codes′ el refl)

@@ -5,7 +5,7 @@ use mathlib.Core.Bool.{Bool, true, false, cond}
 use mathlib.Core.List.{List, [], _∷_, _++_}
 use native.Mathlib.Omega.{arith}
 use lib.ListN.{take, drop}
-use Rattle.series.specs.Results.{Result, refused, value, _>>=_}
+use Rattle.series.specs.Results.{refused, value, _>>=_}
 use Rattle.series.specs.Refusals.{Row, first, NoneApplies}
 use Rattle.series.proofs.ResultLaws.{never}
 

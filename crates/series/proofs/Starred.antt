@@ -8,12 +8,12 @@ use Rattle.series.specs.Results.{Result, refused, value}
 use Rattle.series.specs.Outputs.{onto}
 use Rattle.series.specs.Sums.{sumBelow, bit, countBelow, listed}
 use Rattle.series.specs.Places.{total, next, steps, run, within, marked, before, last, amounts}
-use Rattle.series.specs.Series.{Series, held}
+use Rattle.series.specs.Series.{Series, termsOf, held}
 use Rattle.series.specs.Wheel.{blocks, interval, marks, wheelMarks, wheel, blocksUsed}
 use Rattle.series.specs.ProRata.{percentage, assignmentAmount, wholePart, decimalPart, roundOne, decimals, remainder, larger, equal, turn, rank, roundTwo, proRata}
 use Rattle.series.specs.Lottery.{startingPlace, lottery, unstarted, lotteryAmounts, startUsed}
 use Rattle.series.specs.RemainderDraw.{remainderPlace}
-use Rattle.series.specs.Refusals.{first, lengthRows, roomRows, standsIn, accountRefused, positionRows, exercisedRows, outside, undrawn, drawRows, thenDrawRows, listRows, rows, verdict, leftAside, aside, Accepted}
+use Rattle.series.specs.Refusals.{first, lengthRows, roomRows, standsIn, accountRefused, positionRows, exercisedRows, outside, undrawn, drawRows, thenDrawRows, listRows, rows, verdict, without, Accepted}
 use Rattle.series.specs.Answers.{Allocation}
 use Rattle.series.specs.Call.{assigned, further, answer, output}
 use Rattle.series.specs.declared.Method.{Method}
@@ -24,7 +24,7 @@ use Rattle.series.proofs.RowLaws.{value-passed}
 unfoldable pub series : Method → List ℕ → ℕ → ℕ → Series
 series m hs S draw =
     record {
-      terms = record { method = m; exercised = record { 0 = S }; draw = draw };
+      terms = termsOf m S draw;
       codes = listed suc (length hs);
       accounts = listed suc (length hs);
       shorts = hs;
@@ -35,9 +35,13 @@ pub record Called : Type 0 where
   pub answered : Result Allocation
   pub written : List ℕ
 
--- the line `unfolding` names every definition that the call's answer and output compute with
+-- the lines `unfolding` name every definition that the amounts, and the call's answer and output, compute with
+unfoldable pub amountsOf : Series → List ℕ
+unfolding series onto sumBelow bit countBelow listed total next steps run within marked before last amounts blocks interval marks wheelMarks wheel blocksUsed percentage assignmentAmount wholePart decimalPart roundOne decimals remainder larger equal turn rank roundTwo proRata startingPlace lottery unstarted lotteryAmounts startUsed remainderPlace assigned
+amountsOf s = assigned (s .terms) (s .shorts)
+
 unfoldable pub calledOn : Series → Called
-unfolding series onto sumBelow bit countBelow listed total next steps run within marked before last amounts blocks interval marks wheelMarks wheel blocksUsed percentage assignmentAmount wholePart decimalPart roundOne decimals remainder larger equal turn rank roundTwo proRata startingPlace lottery unstarted lotteryAmounts startUsed remainderPlace first lengthRows roomRows standsIn accountRefused positionRows exercisedRows outside undrawn drawRows thenDrawRows listRows rows verdict assigned further answer output
+unfolding amountsOf first lengthRows roomRows standsIn accountRefused positionRows exercisedRows outside undrawn drawRows thenDrawRows listRows rows verdict further answer output
 calledOn s =
     let old : List ℕ = replicate (suc (length (s .shorts))) 7 in
     record { answered = answer s (length old); written = output s old }
@@ -137,14 +141,14 @@ pub drawn-zero : List Series
 drawn-zero = series Wheel M-shorts 13 0 ∷ series ProRata M-shorts 13 0 ∷ series Lottery M-shorts 13 0 ∷ series RemainderDraw M-shorts 13 0 ∷ []
 
 -- what the rows that are left come to where the draw is 0 and there is no room: T, for each of them
-pub undrawn-left : map (λ s. first (aside (rows s 0)) (held s)) drawn-zero ≡ value 36 ∷ value 36 ∷ value 36 ∷ value 36 ∷ []
-unfolding drawn-zero series listed total unstarted first aside leftAside rows listRows lengthRows roomRows standsIn accountRefused positionRows exercisedRows outside undrawn drawRows thenDrawRows
+pub undrawn-left : map (λ s. first (without (4 ∷ 10 ∷ []) (rows s 0)) (held s)) drawn-zero ≡ value 36 ∷ value 36 ∷ value 36 ∷ value 36 ∷ []
+unfolding drawn-zero series listed total unstarted first without rows listRows lengthRows roomRows standsIn accountRefused positionRows exercisedRows outside undrawn drawRows thenDrawRows
 undrawn-left = refl
 
 -- so M is accepted with draw 0 and room 0
 pub accepted-undrawn : Accepted (series Lottery M-shorts 13 0) 0
-unfolding Accepted series listed total unstarted first aside leftAside rows listRows lengthRows roomRows standsIn accountRefused positionRows exercisedRows outside undrawn drawRows thenDrawRows
-accepted-undrawn = value-passed (aside (rows (series Lottery M-shorts 13 0) 0)) (held (series Lottery M-shorts 13 0)) 36 refl
+unfolding Accepted series listed total unstarted first without rows listRows lengthRows roomRows standsIn accountRefused positionRows exercisedRows outside undrawn drawRows thenDrawRows
+accepted-undrawn = value-passed (without (4 ∷ 10 ∷ []) (rows (series Lottery M-shorts 13 0) 0)) (held (series Lottery M-shorts 13 0)) 36 refl
 
 -- the places a, a + 1, .., e
 pub span : ℕ → ℕ → List ℕ

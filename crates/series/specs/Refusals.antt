@@ -49,6 +49,11 @@ unfoldable pub standsIn : ℕ → List ℕ → Bool
 standsIn n [] = false
 standsIn n (m ∷ ms) = eqb n m || standsIn n ms
 
+-- the rows without those of these numbers
+unfoldable pub without : List ℕ → List Row → List Row
+without ns [] = []
+without ns (r ∷ rows) = cond (standsIn (r .number) ns) (without ns rows) (r ∷ without ns rows)
+
 -- under W: the account is 0, or stands earlier in the list. P, L and R judge its order alone
 unfoldable pub accountRefused : Method → List ℕ → ℕ → Bool
 accountRefused m earlier a = byMethod m (eqb a 0 || standsIn a earlier) false false false
@@ -100,20 +105,18 @@ rows s room =
 unfoldable pub verdict : Series → ℕ → Result ℕ
 verdict s room = first (rows s room) (held s)
 
--- judging a list alone, with no output, S or draw: T, or the first refusal that it meets
+-- judging a list that rises by order, its positions alone: T, or the first refusal that they meet
+abbrev pub positionsVerdict : Method → List ℕ → List ℕ → List ℕ → Result ℕ
+positionsVerdict m order accounts shorts = first (positionRows m [] 0 0 order accounts shorts) (total shorts)
+
+-- judging a list that rises by order, with no S or draw; room is the length of an output
+abbrev pub listVerdictFor : Method → List ℕ → List ℕ → List ℕ → ℕ → Result ℕ
+listVerdictFor m order accounts shorts room = first (listRows m order accounts shorts room) (total shorts)
+
+-- judging a list alone: the list's refusals except 4, so that no room is looked at
 unfoldable pub listVerdict : Method → List ℕ → List ℕ → List ℕ → Result ℕ
-listVerdict m codes accounts shorts =
-    first (lengthRows (orderedBy m codes accounts) accounts shorts ++ positionRows m [] 0 0 (orderedBy m codes accounts) accounts shorts) (total shorts)
-
--- the row is left aside: 4 or 10
-unfoldable pub leftAside : Row → Bool
-leftAside r = eqb (r .number) 4 || eqb (r .number) 10
-
--- the rows without those left aside
-unfoldable pub aside : List Row → List Row
-aside [] = []
-aside (r ∷ rows) = cond (leftAside r) (aside rows) (r ∷ aside rows)
+listVerdict m codes accounts shorts = first (without (4 ∷ []) (listRows m (orderedBy m codes accounts) accounts shorts 0)) (total shorts)
 
 -- the series is accepted: none of the call's refusals applies to it, 4 and 10 left aside
 unfoldable pub Accepted : Series → ℕ → Type 0
-Accepted s room = NoneApplies (aside (rows s room))
+Accepted s room = NoneApplies (without (4 ∷ 10 ∷ []) (rows s room))

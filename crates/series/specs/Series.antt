@@ -1,5 +1,6 @@
 -- A series, and how large it may be.
 use Prim.Native.Nat.{ℕ}
+use mathlib.Core.Path.{_≡_}
 use mathlib.Core.List.{List}
 use Rattle.series.specs.Places.{total}
 use Rattle.series.specs.declared.Method.{Method}
@@ -13,7 +14,21 @@ MOST_POSITIONS = 4096
 abbrev pub MOST_CONTRACTS : ℕ
 MOST_CONTRACTS = 10000000
 
--- a series: the method, S and the draw, and the list of its short positions, a code, an account and its shorts each
+-- the terms of a method, S and a draw
+abbrev pub termsOf : Method → ℕ → ℕ → Terms
+termsOf m S draw = record { method = m; exercised = record { 0 = S }; draw = draw }
+
+-- the terms t have this method, S and draw, whatever else they have
+pub record Given (t : Terms) (m : Method) (S d : ℕ) : Type 0 where
+  pub given-method : t .method ≡ m
+  pub given-exercised : t .exercised .0 ≡ S
+  pub given-draw : t .draw ≡ d
+
+-- the same terms with another draw
+unfoldable pub redrawn : ℕ → Terms → Terms
+redrawn d t = record { method = t .method; exercised = t .exercised; draw = d }
+
+-- a series: its terms, and the list of its short positions, a code, an account and its shorts each
 pub record Series : Type 0 where
   pub terms : Terms
   pub codes : List ℕ
@@ -33,16 +48,6 @@ draw s = s .terms .draw
 -- T, the sum of all shorts
 abbrev pub held : Series → ℕ
 held s = total (s .shorts)
-
--- the same series with another draw
-unfoldable pub redrawn : ℕ → Series → Series
-redrawn d s =
-    record {
-      terms = record { method = s .terms .method; exercised = s .terms .exercised; draw = d };
-      codes = s .codes;
-      accounts = s .accounts;
-      shorts = s .shorts;
-    }
 
 -- what is given for each method: W, P, L, R
 abbrev pub byMethod : {A : Type 0} → Method → A → A → A → A → A

@@ -1,6 +1,7 @@
 // The vocabulary of document 01: what the calls of the library take and answer with.
 ghost use mathlib.Core.Path.{_≡_};
 ghost use Rattle.series.specs.Answers.{numberOf};
+ghost use Rattle.series.specs.Series.{termsOf};
 
 // A place on the wheel, document 01's "place": counts from 1.
 pub struct Place(pub u32);
@@ -21,6 +22,17 @@ pub struct Terms {
     pub method: Method,
     pub exercised: Contracts,
     pub draw: u32,
+}
+
+// The terms of a method, S and a draw.
+pub fn terms_of(method: Method, exercised: Contracts, draw: u32) -> Terms
+    ensures { λ r. ⌜ r ≡ termsOf method (exercised .0) draw ⌝ }
+{
+    Terms {
+        method,
+        exercised,
+        draw,
+    }
 }
 
 // Why a call is turned away, in the order of the numbers 1 to 20 of documents 01 and 02.

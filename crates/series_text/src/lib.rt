@@ -10,9 +10,8 @@ ghost use mathlib.Core.Path.{_≡_};
 ghost use Prim.Native.Nat.{_≤_};
 ghost use mathlib.Core.List.{_++_};
 ghost use lib.ListN.{length, take, drop};
-ghost use Rattle.series.specs.Results.{after};
-ghost use Rattle.series.specs.Outputs.{onto};
-ghost use Rattle.text_rules.specs.Calls.{readInto, handed};
+ghost use Rattle.series.specs.Outputs.{lent};
+ghost use Rattle.text_rules.specs.Calls.{ReadingCall};
 ghost use Rattle.series_text.specs.Answers.{readingOf};
 
 // What reading a text answers: its form, the values of line 2 and the number of positions, or a refusal.
@@ -39,10 +38,7 @@ fn copy_first(source: &[u32], n: usize, target: &mut [u32])
 
 // Reads the text of a series into three lists. After a refusal all are as they were, and what stands past the positions is kept.
 pub fn read(text: &[u8], codes: &mut [u32], accounts: &mut [u32], numbers: &mut [u32]) -> Reading
-    ensures { λ r. ⌜ readingOf r ≡ handed (readInto (now (text .entry)) (length (now (codes .entry))) (length (now (accounts .entry))) (length (now (numbers .entry)))) ⌝ }
-    ensures { λ _. ⌜ now (codes .exit) ≡ after (readInto (now (text .entry)) (length (now (codes .entry))) (length (now (accounts .entry))) (length (now (numbers .entry)))) (λ s. onto (s .codes) (now (codes .entry))) (now (codes .entry)) ⌝ }
-    ensures { λ _. ⌜ now (accounts .exit) ≡ after (readInto (now (text .entry)) (length (now (codes .entry))) (length (now (accounts .entry))) (length (now (numbers .entry)))) (λ s. onto (s .accounts) (now (accounts .entry))) (now (accounts .entry)) ⌝ }
-    ensures { λ _. ⌜ now (numbers .exit) ≡ after (readInto (now (text .entry)) (length (now (codes .entry))) (length (now (accounts .entry))) (length (now (numbers .entry)))) (λ s. onto (s .numbers) (now (numbers .entry))) (now (numbers .entry)) ⌝ }
+    ensures { λ r. ⌜ ReadingCall (now (text .entry)) (readingOf r) (lent (now (codes .entry)) (now (codes .exit))) (lent (now (accounts .entry)) (now (accounts .exit))) (lent (now (numbers .entry)) (now (numbers .exit))) ⌝ }
 {
     let head = text_head::read_head(text);
     match head {

@@ -5,11 +5,8 @@ use text_fields::row::read_row;
 ghost use mathlib.Core.Path.{_≡_};
 ghost use Prim.Native.Nat.{_≤_};
 ghost use lib.ListN.{length, drop};
-ghost use Rattle.series.specs.declared.Terms.{Terms as Terms·};
-ghost use Rattle.forms.specs.declared.Form.{Form as Form·};
-ghost use Rattle.text_rules.specs.Text.{readPositions, MOST_LINES};
-ghost use Rattle.text_fields.specs.Parts.{rowMeans};
-ghost use Rattle.series_text.specs.Parts.{readPosition, positionsMean, positionsWithin};
+ghost use Rattle.text_rules.specs.Text.{MOST_LINES};
+ghost use Rattle.series_text.specs.Parts.{PositionRead, LinesRead};
 
 // How many positions were read.
 pub enum Positions {
@@ -20,7 +17,7 @@ pub enum Positions {
 // Reads the code, the account and the shorts or last number of a position line at an index. Without a code of its own the code is the account.
 fn read_position(text: &[u8], at: usize, coded: bool, row: &mut [u32]) -> RowEnd
     requires { ⌜ length (now row) ≡ 3 ⌝ }
-    ensures { λ r. ⌜ rowMeans (now (text .entry)) (now (row .exit)) r ≡ readPosition coded (drop at (now (text .entry))) ⌝ }
+    ensures { λ r. ⌜ PositionRead coded (now (text .entry)) at (now (row .exit)) r ⌝ }
 {
     if coded {
         return read_row(text, at, row);
@@ -40,8 +37,7 @@ pub fn read_positions(
     numbers: &mut [u32],
 ) -> Positions
     requires { ⌜ (MOST_LINES ≤ length (now codes)) × (MOST_LINES ≤ length (now accounts)) × (MOST_LINES ≤ length (now numbers)) ⌝ }
-    ensures { λ r. ⌜ ((f : Form·) (t : Terms·) → positionsMean f t (now (codes .exit)) (now (accounts .exit)) (now (numbers .exit)) r ≡ readPositions (record { terms = t; form = f; coded = coded }) (drop from (now (text .entry)))) ⌝ }
-    ensures { λ r. ⌜ positionsWithin r ⌝ }
+    ensures { λ r. ⌜ LinesRead coded (drop from (now (text .entry))) (now (codes .exit)) (now (accounts .exit)) (now (numbers .exit)) r ⌝ }
 {
     let mut row = [0u32; 3];
     let mut at = from;

@@ -9,6 +9,7 @@ use borrow.Author.Tests.{lt-ltb, le-ltb}
 use lib.ListN.{length, getD, replicate, length-append, length-replicate, List·getD-append, getD-replicate}
 use lib.Seq.{getD-append-add}
 use Rattle.series.specs.Ascii.{ascii}
+use Rattle.series.specs.Series.{termsOf}
 use Rattle.series.specs.Results.{refused, value, status}
 use Rattle.forms.specs.Forms.{Listing}
 use Rattle.forms.specs.declared.Form.{Form}
@@ -16,8 +17,8 @@ use Rattle.series.specs.Sums.{listed}
 use Rattle.series.specs.declared.Method.{Method}
 use Rattle.text_rules.specs.Numbers.{LARGEST, decimalIn, decimal}
 use Rattle.text_rules.specs.Fields.{Text, endBefore, writeNumber}
-use Rattle.text_rules.specs.Rows.{writeRow, writeRows, rowOf, rowsOf}
-use Rattle.text_rules.specs.Names.{namesLine}
+use Rattle.text_rules.specs.Rows.{writeParted, writeRow, writeRows, rowOf, rowsOf}
+use Rattle.text_rules.specs.Names.{termsLine, codeName, accountName, formName, accountLine, positionsLine}
 use Rattle.text_rules.specs.Letters.{letter}
 use Rattle.text_rules.specs.Text.{MOST_BYTES, readHead, readText, writeTerms, writeHead, textWith, sameNumbers, writesCodes, writeText}
 use Rattle.text_rules.specs.Calls.{evenly, lineCount, headAndLines, writeInto, lengthOf}
@@ -30,11 +31,11 @@ use Rattle.text_rules.proofs.RoundTrip.{Writable, round-trip, too-long}
 pub large : ℕ → ℕ → ℕ → ℕ → Listing
 large n code account number =
     let then : ℕ → List ℕ = λ k. replicate n 4294967295 ++ (k ∷ []) in
-    record { form = Form.Shorts; terms = record { method = Method.Lottery; exercised = record { 0 = 13 }; draw = 4855 }; codes = then code; accounts = then account; numbers = then number }
+    record { form = Form.Shorts; terms = termsOf Method.Lottery 13 4855; codes = then code; accounts = then account; numbers = then number }
 
 -- the definitions that a line, the head and the tests before them compute with
 computing : Listing → Text
-unfolding large endBefore namesLine letter ascii decimalIn decimal writeNumber writeRow writeTerms writeHead sameNumbers writesCodes evenly lineCount headAndLines writeInto lengthOf
+unfolding large endBefore termsLine codeName accountName formName accountLine positionsLine letter ascii decimalIn decimal writeNumber writeParted writeTerms writeHead sameNumbers writesCodes evenly lineCount headAndLines writeInto lengthOf
 computing t = writeText t
 
 -- a series whose text has 32,768 bytes, and one whose text has one more

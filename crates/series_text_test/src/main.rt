@@ -6,6 +6,7 @@ use series::Contracts;
 use series::Method;
 use series::Refusal;
 use series::Terms;
+use series::terms_of;
 use series_text::Reading;
 use text_writing::Writing;
 ghost use Prim.Native.Nat.{_≤_, max};
@@ -219,11 +220,7 @@ fn limits() {
 }
 
 fn terms(method: Method, exercised: u32, draw: u32) -> Terms {
-    Terms {
-        method,
-        exercised: Contracts(exercised),
-        draw,
-    }
+    terms_of(method, Contracts(exercised), draw)
 }
 
 // What writing refuses: 1 for each list, and 4.

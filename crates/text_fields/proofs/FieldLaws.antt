@@ -8,14 +8,33 @@ use native.Mathlib.Nat.{pow-suc, pow-le-pow-right}
 use native.Mathlib.Numerals.{add-one}
 use borrow.Author.Tests.{lt-leb, eq-eqb, ne-eqb}
 use lib.Dec.{eqb}
-use lib.ListN.{length, getD, take, drop, length-append, drop-of-length-le}
+use lib.ListN.{length, getD, take, drop, length-append, length-drop, drop-of-length-le}
 use lib.Seq.{slice, slice-empty, length-slice, take-suc, drop-cons, drop-append-le, length-take-le}
 use Rattle.series.specs.Results.{Result, refused, value, _>>=_}
 use Rattle.text_rules.specs.Fields.{Text, Read, ends, field, past, fieldBy}
 use Rattle.text_rules.specs.Names.{afterLine}
-use Rattle.text_fields.specs.Parts.{numberBy}
+use Rattle.text_fields.specs.Parts.{Onward, LineRead, NumberRead, numberBy}
+use Rattle.text_fields.specs.declared.field.Line.{Line}
+use Rattle.text_fields.specs.declared.number.Field.{Field}
 use Rattle.text_rules.specs.Numbers.{LARGEST, MOST_DIGITS, digit, digits, spelled, amountFrom, amount, numeral, number}
 use Rattle.text_rules.proofs.FieldLaws.{prefixed, prefixed-nil, prefixed-prefixed, field-byte, field-end, field-other, field-none, digits-append, amount-more, digits-read, digit-bounds, ends-digit}
+
+-- ---- the index at which reading goes on
+
+-- what is left of the text determines it
+pub index-known : (s : Text) (at i j : ℕ) → Onward s at i → Onward s at j → drop i s ≡ drop j s → i ≡ j
+index-known s at i j p q e = omega (arith, length-drop i s, length-drop j s, ap length e)
+
+pub onward-start : (s : Text) (at : ℕ) → Onward s at at
+onward-start s at = record { from = omega arith; within = omega arith }
+
+-- a byte of the text is passed
+pub onward-byte : (s : Text) (at i : ℕ) → at ≤ i → i < length s → Onward s at (i + 1)
+onward-byte s at i le lt = record { from = omega arith; within = omega arith }
+
+-- reading goes on twice
+pub onward-more : (s : Text) (at i j : ℕ) → Onward s at i → Onward s i j → Onward s at j
+onward-more s at i j p q = record { from = omega arith; within = omega arith }
 
 -- ---- a part of a text from one index to another
 
@@ -79,6 +98,9 @@ numbered r = r >>= λ f. number (f .found) >>= λ n. value (record { found = n; 
 pub numberBy-numbered : (c : ℕ) (s : Text) → numberBy c s ≡ numbered (fieldBy c s)
 unfolding numberBy numbered
 numberBy-numbered c s = refl
+
+malformed : (c : ℕ) (s : Text) (at : ℕ) → numberBy c (drop at s) ≡ refused 13 → NumberRead c s at Field.Malformed
+malformed c s at e = record { means = sym e; onward = tt }
 
 -- a field that no bytes after it can make a number
 abbrev pub Spoilt : Text → Type 0
@@ -152,15 +174,15 @@ module _ (c : ℕ) (s : Text) (at i n : ℕ) (so : NumberTo c s at i n) where
       }
 
   -- an eleventh digit
-  pub number-long : i < length s → digit (getD s i 0) ≡ true → MOST_DIGITS ≤ i - at → numberBy c (drop at s) ≡ refused 13
+  pub number-long : i < length s → digit (getD s i 0) ≡ true → MOST_DIGITS ≤ i - at → NumberRead c s at Field.Malformed
   number-long lt d many =
       let long : MOST_DIGITS < length (slice at (i + 1) s) = omega (arith, length-slice at (i + 1) s (omega arith), so .within) in
-      read-spoilt c s at (i + 1) (spoilt-long (slice at (i + 1) s) long) (digit-read lt d)
+      malformed c s at (read-spoilt c s at (i + 1) (spoilt-long (slice at (i + 1) s) long) (digit-read lt d))
 
   -- a byte that is no digit, and does not end the field as it should
-  pub number-other : i < length s → digit (getD s i 0) ≡ false → (getD s i 0 ≡ c → ⊥) → numberBy c (drop at s) ≡ refused 13
+  pub number-other : i < length s → digit (getD s i 0) ≡ false → (getD s i 0 ≡ c → ⊥) → NumberRead c s at Field.Malformed
   unfolding numbered
-  number-other lt nd ne = go (ends (getD s i 0)) refl
+  number-other lt nd ne = malformed c s at (go (ends (getD s i 0)) refl)
     where
       bad : Spoilt (slice at (i + 1) s)
       bad = rw (slice-more at i s (so .within) lt) (spoilt-byte (slice at i s) (getD s i 0) nd)
@@ -170,9 +192,9 @@ module _ (c : ℕ) (s : Text) (at i n : ℕ) (so : NumberTo c s at i n) where
       go false e = read-spoilt c s at (i + 1) bad (read-more c s at i (so .within) lt e (so .read))
 
   -- the end of the text
-  pub number-none : length s ≤ i → numberBy c (drop at s) ≡ refused 13
+  pub number-none : length s ≤ i → NumberRead c s at Field.Malformed
   unfolding numbered
-  number-none le = numberBy-numbered c (drop at s) ∙ ap numbered (read-none c s at i le (so .read))
+  number-none le = malformed c s at (numberBy-numbered c (drop at s) ∙ ap numbered (read-none c s at i le (so .read)))
 
   -- the byte that ends the field
   module _ (lt : i < length s) (e : getD s i 0 ≡ c) (end : ends c ≡ true) where
@@ -183,46 +205,61 @@ module _ (c : ℕ) (s : Text) (at i n : ℕ) (so : NumberTo c s at i n) where
     long : length (slice at i s) ≡ i - at
     long = length-slice at i s (omega arith)
 
-    pub number-end : (i ≡ at → ⊥) → n ≤ LARGEST → numberBy c (drop at s) ≡ value (record { found = n; rest = drop (i + 1) s })
+    pub number-end : (i ≡ at → ⊥) → n ≤ LARGEST → NumberRead c s at (Field.Number n (i + 1))
     unfolding numbered
-    number-end some fits = ended ∙ rw (digits-read (slice at i s) n (so .only) (omega (arith, long, so .within)) (omega (arith, long, so .few)) (so .amounts) fits)
+    number-end some fits =
+        record {
+          means = sym (ended ∙ rw (digits-read (slice at i s) n (so .only) (omega (arith, long, so .within)) (omega (arith, long, so .few)) (so .amounts) fits));
+          onward = onward-byte s at i (so .within) lt;
+        }
 
     -- no digit stands before it
-    pub number-empty : i ≡ at → numberBy c (drop at s) ≡ refused 13
+    pub number-empty : i ≡ at → NumberRead c s at Field.Malformed
     unfolding numbered number numeral spelled
     number-empty none =
         let zero′ : length (slice at i s) ≡ 0 = long ∙ omega arith in
-        ended ∙ rw (so .only, zero′)
+        malformed c s at (ended ∙ rw (so .only, zero′))
 
     -- the number does not fit
-    pub number-large : LARGEST < n → numberBy c (drop at s) ≡ refused 13
+    pub number-large : LARGEST < n → NumberRead c s at Field.Malformed
     unfolding numbered number numeral
     number-large over =
         let bad : numeral (slice at i s) ≡ false = simp (so .amounts, lt-leb n LARGEST over, and-false) in
-        ended ∙ rw bad
+        malformed c s at (ended ∙ rw bad)
 
 -- ---- a fixed line
 
 -- what a loop over the bytes of a line p keeps: i of them are compared, up to index j of the text s
-abbrev pub ComparedTo : Text → Text → ℕ → ℕ → ℕ → Type 0
-ComparedTo p s at i j = afterLine p (drop at s) ≡ afterLine (drop i p) (drop j s)
+pub record ComparedTo (p s : Text) (at i j : ℕ) : Type 0 where
+  pub rest : afterLine p (drop at s) ≡ afterLine (drop i p) (drop j s)
+  pub onward : Onward s at j
 
--- the text ends too early
-pub line-none : (p s : Text) (at i j : ℕ) → i < length p → length s ≤ j → ComparedTo p s at i j → afterLine p (drop at s) ≡ refused 12
-unfolding afterLine
-line-none p s at i j lt le so = so ∙ rw (drop-more i p lt, drop-of-length-le s le)
+pub line-start : (p s : Text) (at : ℕ) → ComparedTo p s at 0 at
+line-start p s at = record { rest = refl; onward = onward-start s at }
 
--- another byte stands there
-pub line-other : (p s : Text) (at i j : ℕ) → i < length p → j < length s → (getD s j 0 ≡ getD p i 0 → ⊥) → ComparedTo p s at i j → afterLine p (drop at s) ≡ refused 12
-unfolding afterLine
-line-other p s at i j lt lt′ ne so = so ∙ rw (drop-more i p lt, drop-more j s lt′, ne-eqb (getD p i 0) (getD s j 0) (λ e. ne (sym e)))
+module _ (p s : Text) (at i j : ℕ) (so : ComparedTo p s at i j) where
+  -- the line is compared whole
+  pub line-end : length p ≤ i → LineRead p s at (Line.Ends j)
+  unfolding afterLine
+  line-end le = record { means = sym (so .rest ∙ rw (drop-of-length-le p le)); onward = so .onward }
 
--- the same byte stands there
-pub line-more : (p s : Text) (at i j : ℕ) → i < length p → j < length s → getD s j 0 ≡ getD p i 0 → ComparedTo p s at i j → ComparedTo p s at (i + 1) (j + 1)
-unfolding afterLine
-line-more p s at i j lt lt′ e so = so ∙ rw (drop-more i p lt, drop-more j s lt′, eq-eqb (getD p i 0) (getD s j 0) (sym e))
+  module _ (lt : i < length p) where
+    -- the text ends too early
+    pub line-none : length s ≤ j → LineRead p s at Line.Missing
+    unfolding afterLine
+    line-none le = record { means = sym (so .rest ∙ rw (drop-more i p lt, drop-of-length-le s le)); onward = tt }
 
--- the line is compared whole
-pub line-end : (p s : Text) (at i j : ℕ) → length p ≤ i → ComparedTo p s at i j → afterLine p (drop at s) ≡ value (drop j s)
-unfolding afterLine
-line-end p s at i j le so = so ∙ rw (drop-of-length-le p le)
+    module _ (lt′ : j < length s) where
+      -- another byte stands there
+      pub line-other : (getD s j 0 ≡ getD p i 0 → ⊥) → LineRead p s at Line.Missing
+      unfolding afterLine
+      line-other ne = record { means = sym (so .rest ∙ rw (drop-more i p lt, drop-more j s lt′, ne-eqb (getD p i 0) (getD s j 0) (λ e. ne (sym e)))); onward = tt }
+
+      -- the same byte stands there
+      pub line-more : getD s j 0 ≡ getD p i 0 → ComparedTo p s at (i + 1) (j + 1)
+      unfolding afterLine
+      line-more e =
+          record {
+            rest = so .rest ∙ rw (drop-more i p lt, drop-more j s lt′, eq-eqb (getD p i 0) (getD s j 0) (sym e));
+            onward = onward-byte s at j (so .onward .from) lt′;
+          }

@@ -1,9 +1,7 @@
 // Fields and fixed lines of a text.
 ghost use mathlib.Core.Path.{_≡_};
-ghost use lib.ListN.{length, drop};
-ghost use Rattle.text_rules.specs.Fields.{ends, fieldBy};
-ghost use Rattle.text_rules.specs.Names.{afterLine};
-ghost use Rattle.text_fields.specs.Parts.{lineMeans, foundMeans, foundWithin};
+ghost use Rattle.text_rules.specs.Fields.{ends};
+ghost use Rattle.text_fields.specs.Parts.{LineRead, EndFound};
 
 // The index after a line, where the text has it.
 pub enum Line {
@@ -19,7 +17,7 @@ pub enum Found {
 
 // Compares the text at an index with a fixed line.
 pub fn skip_line(text: &[u8], at: usize, line: &[u8]) -> Line
-    ensures { λ r. ⌜ lineMeans (now (text .entry)) r ≡ afterLine (now (line .entry)) (drop at (now (text .entry))) ⌝ }
+    ensures { λ r. ⌜ LineRead (now (line .entry)) (now (text .entry)) at r ⌝ }
 {
     let mut i = 0;
     let mut j = at;
@@ -48,8 +46,7 @@ fn ends_field(byte: u8) -> bool
 
 // Finds the end of the field at an index, where the byte `end` ends it.
 pub fn find_end(text: &[u8], at: usize, end: u8) -> Found
-    ensures { λ r. ⌜ foundMeans (now (text .entry)) at r ≡ fieldBy end (drop at (now (text .entry))) ⌝ }
-    ensures { λ r. ⌜ foundWithin at (length (now (text .entry))) r ⌝ }
+    ensures { λ r. ⌜ EndFound end (now (text .entry)) at r ⌝ }
 {
     let mut i = at;
     while i < text.len() {

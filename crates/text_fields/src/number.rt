@@ -1,10 +1,9 @@
 // A number as a field of a text.
 ghost use mathlib.Core.Path.{_≡_};
 ghost use mathlib.Core.Bool.{true};
-ghost use lib.ListN.{drop};
 ghost use Rattle.text_rules.specs.Numbers.{digit};
 ghost use Rattle.text_rules.specs.Fields.{ends};
-ghost use Rattle.text_fields.specs.Parts.{fieldMeans, numberBy};
+ghost use Rattle.text_fields.specs.Parts.{NumberRead};
 
 // A number, and the index of the byte after its field.
 pub enum Field {
@@ -25,7 +24,7 @@ fn is_digit(byte: u8) -> bool
 // The number in the field at an index, where the byte `end`, a comma or byte 10, ends the field.
 pub fn read_number(text: &[u8], at: usize, end: u8) -> Field
     requires { ⌜ ends end ≡ true ⌝ }
-    ensures { λ r. ⌜ fieldMeans (now (text .entry)) r ≡ numberBy end (drop at (now (text .entry))) ⌝ }
+    ensures { λ r. ⌜ NumberRead end (now (text .entry)) at r ⌝ }
 {
     let mut n: u64 = 0;
     let mut i = at;

@@ -5,10 +5,9 @@ use crate::field::find_end;
 use crate::number::Field;
 use crate::number::read_number;
 ghost use mathlib.Core.Path.{_≡_};
-ghost use lib.ListN.{length, drop};
+ghost use lib.ListN.{drop};
 ghost use Rattle.text_rules.specs.Fields.{readFields};
-ghost use Rattle.text_rules.specs.Rows.{readRow};
-ghost use Rattle.text_fields.specs.Parts.{rowMeans, foundFields};
+ghost use Rattle.text_fields.specs.Parts.{RowRead, foundFields};
 
 // The index after a row of numbers, where there is one.
 pub enum RowEnd {
@@ -24,7 +23,7 @@ pub fn has_fields(text: &[u8], at: usize, fields: usize) -> bool
     let mut left = fields;
     while 0 < left {
         left -= 1;
-        let Found::At(end) = find_end(text, next, end_before(left)) else {
+        let Found::At(end) = find_end(text, next, end_before(b',', b'\n', left)) else {
             return false;
         };
         next = end + 1;
@@ -32,9 +31,9 @@ pub fn has_fields(text: &[u8], at: usize, fields: usize) -> bool
     true
 }
 
-// Reads a row of as many numbers as the lent list has.
+// Reads a row of as many numbers as the lent list has. After a malformed one the numbers before it stand in the list, and past them what stood there.
 pub fn read_row(text: &[u8], at: usize, row: &mut [u32]) -> RowEnd
-    ensures { λ r. ⌜ rowMeans (now (text .entry)) (now (row .exit)) r ≡ readRow (length (now (row .entry))) (drop at (now (text .entry))) ⌝ }
+    ensures { λ r. ⌜ RowRead (now (text .entry)) at (now (row .entry)) (now (row .exit)) r ⌝ }
 {
     if row.len() == 0 {
         return RowEnd::At(at);

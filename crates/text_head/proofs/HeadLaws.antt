@@ -1,23 +1,24 @@
 -- Laws of the method, of line 2, and of lines 1 to 3.
-use Prim.Native.Nat.{ℕ, suc, _≤_, _<_}
+use Prim.Native.Nat.{ℕ, zero, suc, _+_, _≤_, _<_}
 use mathlib.Core.Path.{_≡_, refl, sym, ap, _∙_}
 use mathlib.Core.Bool.{true, false, false≢true}
-use mathlib.Core.List.{List, [], _∷_}
+use mathlib.Core.List.{List, [], _∷_, _++_}
 use native.Mathlib.Omega.{arith}
 use borrow.Author.Tests.{lt-ltb, le-ltb}
-use lib.ListN.{length, getD}
-use lib.Seq.{slice, slice-empty, slice-cons}
+use lib.ListN.{length, getD, drop}
+use lib.Seq.{slice, slice-empty, slice-cons, getD-drop}
 use Rattle.series.specs.Results.{Result, refused, value, _>>=_}
 use Rattle.series.specs.declared.Method.{Method}
 use Rattle.series.specs.declared.Terms.{Terms}
 use Rattle.series.proofs.ResultLaws.{never}
 use Rattle.text_rules.specs.Fields.{Text, COMMA, Read, fieldBy, readFields}
 use Rattle.text_rules.specs.Rows.{numbers, readRow}
-use Rattle.text_rules.specs.Names.{line1, line3, formOf, coded, readNames}
+use Rattle.text_rules.specs.Names.{termsLine, termsNumbers, line1, positionsLine, line3, readNames}
 use Rattle.text_rules.specs.Letters.{methodBy, methodOf}
-use Rattle.text_rules.specs.Text.{MOST_BYTES, readTerms, readHead}
-use Rattle.text_rules.specs.declared.Heading.{Heading}
-use Rattle.text_fields.specs.Parts.{foundFields}
+use Rattle.text_rules.specs.Text.{MOST_BYTES, termsFrom, readTerms, readHead}
+use Rattle.text_rules.specs.declared.TermsColumns.{TermsColumns}
+use Rattle.text_rules.specs.declared.PositionColumns.{PositionColumns}
+use Rattle.text_fields.specs.Parts.{Onward, foundFields}
 use Rattle.text_fields.proofs.RowLaws.{Only, fields-only, before, rowBy}
 
 -- ---- the method
@@ -38,18 +39,25 @@ method-one a b s e le =
 
 -- ---- line 2
 
--- the values of line 2, from the method and the numbers
-abbrev pub termsOf : Method → List ℕ → Terms
-termsOf how ns = record { method = how; exercised = record { 0 = getD ns 0 0 }; draw = getD ns 1 0 }
-
 -- no comma ends the first field
-pub terms-first : (s : Text) → refused 13 ≡ fieldBy COMMA s → refused 13 ≡ readTerms s
+pub terms-first : (k : ℕ) (s : Text) → refused 13 ≡ fieldBy COMMA s → refused 13 ≡ readTerms k s
 unfolding readTerms
-terms-first s h = rw (← h)
+terms-first k s h = rw (← h)
+
+-- numbers that are put first in a list of two zeros, as they are asked for
+pub values-read : (ns : List ℕ) (k i : ℕ) → getD (ns ++ drop k (0 ∷ 0 ∷ [])) i 0 ≡ getD ns i 0
+values-read [] k i = getD-drop k (0 ∷ 0 ∷ []) i 0 ∙ zeros (k + i)
+  where
+    zeros : (j : ℕ) → _≡_ {A = ℕ} (getD (0 ∷ 0 ∷ []) j 0) 0
+    zeros zero = refl
+    zeros (suc zero) = refl
+    zeros (suc (suc j)) = refl
+values-read (n ∷ ns) k zero = refl
+values-read (n ∷ ns) k (suc i) = values-read ns k i
 
 -- what line 2 comes to, from its fields after the first and its method
 termsBy : Result (Read (List Text)) → Result Method → Result (Read Terms)
-termsBy r m = r >>= λ fs. m >>= λ how. numbers (fs .found) >>= λ ns. value (record { found = termsOf how ns; rest = fs .rest })
+termsBy r m = r >>= λ fs. m >>= λ how. numbers (fs .found) >>= λ ns. value (record { found = termsFrom how ns; rest = fs .rest })
 
 -- a row that is read has its fields
 pub row-found : (k : ℕ) (s : Text) {x : Read (List ℕ)} → value x ≡ readRow k s → true ≡ foundFields (readFields k s)
@@ -60,24 +68,24 @@ row-found k s {x} h = go (readFields k s) h
     go (refused n) h = absurd (never n x (sym h))
     go (value fs) h = refl
 
-module _ (s : Text) {m : Read Text} (hm : value m ≡ fieldBy COMMA s) where
-  terms-by : termsBy (readFields 2 (m .rest)) (methodOf (m .found)) ≡ readTerms s
+module _ (k : ℕ) (s : Text) {m : Read Text} (hm : value m ≡ fieldBy COMMA s) where
+  terms-by : termsBy (readFields k (m .rest)) (methodOf (m .found)) ≡ readTerms k s
   unfolding readTerms termsBy
   terms-by = rw (← hm)
 
   -- the fields after it are not there
-  pub terms-missing : false ≡ foundFields (readFields 2 (m .rest)) → refused 13 ≡ readTerms s
+  pub terms-missing : false ≡ foundFields (readFields k (m .rest)) → refused 13 ≡ readTerms k s
   unfolding termsBy Only
-  terms-missing found = go (readFields 2 (m .rest)) (fields-only 2 (m .rest)) found ∙ terms-by
+  terms-missing found = go (readFields k (m .rest)) (fields-only k (m .rest)) found ∙ terms-by
     where
       go : (r : Result (Read (List Text))) → Only 13 r → false ≡ foundFields r → refused 13 ≡ termsBy r (methodOf (m .found))
       go (refused n) h found = rw h
       go (value fs) h found = absurd (false≢true found)
 
   -- they are there, and the method is unknown
-  pub terms-unknown : true ≡ foundFields (readFields 2 (m .rest)) → refused 14 ≡ methodOf (m .found) → refused 14 ≡ readTerms s
+  pub terms-unknown : true ≡ foundFields (readFields k (m .rest)) → refused 14 ≡ methodOf (m .found) → refused 14 ≡ readTerms k s
   unfolding termsBy
-  terms-unknown found hw = go (readFields 2 (m .rest)) found ∙ ap (termsBy (readFields 2 (m .rest))) hw ∙ terms-by
+  terms-unknown found hw = go (readFields k (m .rest)) found ∙ ap (termsBy (readFields k (m .rest))) hw ∙ terms-by
     where
       go : (r : Result (Read (List Text))) → true ≡ foundFields r → refused 14 ≡ termsBy r (refused 14)
       go (refused n) found = absurd (false≢true (sym found))
@@ -85,11 +93,11 @@ module _ (s : Text) {m : Read Text} (hm : value m ≡ fieldBy COMMA s) where
 
   module _ {how : Method} (hw : value how ≡ methodOf (m .found)) where
     -- it is known, and the fields are no numbers
-    pub terms-malformed : true ≡ foundFields (readFields 2 (m .rest)) → refused 13 ≡ readRow 2 (m .rest) → refused 13 ≡ readTerms s
+    pub terms-malformed : true ≡ foundFields (readFields k (m .rest)) → refused 13 ≡ readRow k (m .rest) → refused 13 ≡ readTerms k s
     unfolding readRow rowBy termsBy
-    terms-malformed found h = go (readFields 2 (m .rest)) found h ∙ ap (termsBy (readFields 2 (m .rest))) hw ∙ terms-by
+    terms-malformed found h = go (readFields k (m .rest)) found h ∙ ap (termsBy (readFields k (m .rest))) hw ∙ terms-by
       where
-        last : (u : Text) (q : Result (List ℕ)) → refused 13 ≡ before u q → _≡_ {A = Result (Read Terms)} (refused 13) (q >>= λ ns. value (record { found = termsOf how ns; rest = u }))
+        last : (u : Text) (q : Result (List ℕ)) → refused 13 ≡ before u q → _≡_ {A = Result (Read Terms)} (refused 13) (q >>= λ ns. value (record { found = termsFrom how ns; rest = u }))
         last u (refused n) h = cc
         last u (value ns) h = absurd (never 13 _ h)
 
@@ -97,40 +105,49 @@ module _ (s : Text) {m : Read Text} (hm : value m ≡ fieldBy COMMA s) where
         go (refused n) found h = absurd (false≢true (sym found))
         go (value fs) found h = last (fs .rest) (numbers (fs .found)) h
 
-    -- two numbers
-    pub terms-all : {x : Read (List ℕ)} → value x ≡ readRow 2 (m .rest) → value (record { found = termsOf how (x .found); rest = x .rest }) ≡ readTerms s
+    -- they are
+    pub terms-all : {x : Read (List ℕ)} → value x ≡ readRow k (m .rest) → value (record { found = termsFrom how (x .found); rest = x .rest }) ≡ readTerms k s
     unfolding readRow rowBy termsBy
-    terms-all {x} h = go (readFields 2 (m .rest)) h ∙ ap (termsBy (readFields 2 (m .rest))) hw ∙ terms-by
+    terms-all {x} h = go (readFields k (m .rest)) h ∙ ap (termsBy (readFields k (m .rest))) hw ∙ terms-by
       where
-        last : (u : Text) (q : Result (List ℕ)) → value x ≡ before u q → _≡_ {A = Result (Read Terms)} (value (record { found = termsOf how (x .found); rest = x .rest })) (q >>= λ ns. value (record { found = termsOf how ns; rest = u }))
+        last : (u : Text) (q : Result (List ℕ)) → value x ≡ before u q → _≡_ {A = Result (Read Terms)} (value (record { found = termsFrom how (x .found); rest = x .rest })) (q >>= λ ns. value (record { found = termsFrom how ns; rest = u }))
         last u (refused n) h = absurd (never n x (sym h))
         last u (value ns) h = let is : x ≡ record { found = ns; rest = u } = cc in rw is
 
-        go : (r : Result (Read (List Text))) → value x ≡ rowBy r → value (record { found = termsOf how (x .found); rest = x .rest }) ≡ termsBy r (value how)
+        go : (r : Result (Read (List Text))) → value x ≡ rowBy r → value (record { found = termsFrom how (x .found); rest = x .rest }) ≡ termsBy r (value how)
         go (refused n) h = absurd (never n x (sym h))
         go (value fs) h = last (fs .rest) (numbers (fs .found)) h
 
 -- ---- lines 1 to 3
+
+-- line 2 has room for as many numbers as any line 1 names
+pub few-numbers : (c : TermsColumns) → termsNumbers c ≤ 2
+few-numbers TermsColumns.MethodExercisedDraw = omega arith
+
+-- what is read from the start of the text on, line by line, stays within it
+pub onward-within : (s : Text) (i j k : ℕ) → Onward s 0 i → Onward s i j → Onward s j k → k ≤ length s
+onward-within s i j k first second third = omega arith
 
 pub head-long : (s : Text) → MOST_BYTES < length s → refused 11 ≡ readHead s
 unfolding readHead
 head-long s over = rw (lt-ltb MOST_BYTES (length s) over)
 
 module _ (s : Text) (fits : length s ≤ MOST_BYTES) where
-  pub head-names : refused 12 ≡ readNames line1 s → refused 12 ≡ readHead s
+  pub head-names : refused 12 ≡ readNames termsLine line1 s → refused 12 ≡ readHead s
   unfolding readHead
   head-names h = rw (le-ltb MOST_BYTES (length s) fits, ← h)
 
-  module _ {names : Read Heading} (hn : value names ≡ readNames line1 s) where
-    pub head-terms : {n : ℕ} → refused n ≡ readTerms (names .rest) → refused n ≡ readHead s
+  module _ {names : Read TermsColumns} (hn : value names ≡ readNames termsLine line1 s) where
+    pub head-terms : {n : ℕ} → refused n ≡ readTerms (termsNumbers (names .found)) (names .rest) → refused n ≡ readHead s
     unfolding readHead
     head-terms h = rw (le-ltb MOST_BYTES (length s) fits, ← hn, ← h)
 
-    module _ {t : Read Terms} (ht : value t ≡ readTerms (names .rest)) where
-      pub head-columns : refused 12 ≡ readNames line3 (t .rest) → refused 12 ≡ readHead s
+    module _ {t : Read Terms} (ht : value t ≡ readTerms (termsNumbers (names .found)) (names .rest)) where
+      pub head-columns : refused 12 ≡ readNames positionsLine line3 (t .rest) → refused 12 ≡ readHead s
       unfolding readHead
       head-columns h = rw (le-ltb MOST_BYTES (length s) fits, ← hn, ← ht, ← h)
 
-      pub head-all : {columns : Read Heading} → value columns ≡ readNames line3 (t .rest) → value (record { found = record { terms = t .found; form = formOf (columns .found); coded = coded (columns .found) }; rest = columns .rest }) ≡ readHead s
+      pub head-all : {columns : Read PositionColumns} → value columns ≡ readNames positionsLine line3 (t .rest)
+          → value (record { found = record { terms = t .found; form = columns .found .form; coded = columns .found .coded }; rest = columns .rest }) ≡ readHead s
       unfolding readHead
       head-all h = rw (le-ltb MOST_BYTES (length s) fits, ← hn, ← ht, ← h)

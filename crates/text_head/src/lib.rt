@@ -3,19 +3,19 @@ use forms::Form;
 use series::Contracts;
 use series::Refusal;
 use series::Terms;
+use series::terms_of;
 use text_fields::field::Found;
 use text_fields::field::find_end;
 use text_fields::row::RowEnd;
 use text_fields::row::has_fields;
 use text_fields::row::read_row;
-use text_rules::Heading;
 use text_words::letters::Named;
 use text_words::letters::method_by;
-use text_words::names::Names;
-use text_words::names::form_of;
-use text_words::names::is_coded;
-use text_words::names::read_columns;
-use text_words::names::read_names;
+use text_words::names::PositionNames;
+use text_words::names::TermsNames;
+use text_words::names::read_position_names;
+use text_words::names::read_terms_names;
+use text_words::names::terms_numbers;
 ghost use mathlib.Core.Path.{_≡_};
 ghost use Prim.Native.Nat.{_≤_};
 ghost use lib.ListN.{length, drop};
@@ -23,9 +23,9 @@ ghost use lib.Seq.{slice};
 ghost use Rattle.series.specs.Results.{refused};
 ghost use Rattle.series.specs.Answers.{numberOf};
 ghost use Rattle.text_rules.specs.Letters.{methodOf};
-ghost use Rattle.text_rules.specs.Text.{readTerms, readHead};
+ghost use Rattle.text_rules.specs.Text.{readTerms};
 ghost use Rattle.text_words.specs.Parts.{namedMeans};
-ghost use Rattle.text_head.specs.Parts.{TermsMalformed, termsMeans, headMeans};
+ghost use Rattle.text_head.specs.Parts.{TermsMalformed, TermsRead, HeadRead};
 
 // The values of line 2, and the index after it.
 pub enum TermsLine {
@@ -52,11 +52,11 @@ fn read_method(text: &[u8], from: usize, to: usize) -> Named
 }
 
 // The refusal of a line 2 whose numbers are malformed: its fields are counted before the method is looked at.
-fn refuse_terms(text: &[u8], at: usize, comma: usize) -> Refusal
-    requires { ⌜ TermsMalformed (now text) at comma ⌝ }
-    ensures { λ r. ⌜ refused (numberOf r) ≡ readTerms (drop at (now (text .entry))) ⌝ }
+fn refuse_terms(text: &[u8], at: usize, comma: usize, numbers: usize) -> Refusal
+    requires { ⌜ TermsMalformed numbers (now text) at comma ⌝ }
+    ensures { λ r. ⌜ refused (numberOf r) ≡ readTerms numbers (drop at (now (text .entry))) ⌝ }
 {
-    if !has_fields(text, comma + 1, 2) {
+    if !has_fields(text, comma + 1, numbers) {
         return Refusal::Malformed;
     }
     let Named::Method(_) = read_method(text, at, comma) else {
@@ -65,47 +65,42 @@ fn refuse_terms(text: &[u8], at: usize, comma: usize) -> Refusal
     Refusal::Malformed
 }
 
-// Line 2 at an index: its fields first, then the method, then the numbers.
-fn read_terms(text: &[u8], at: usize) -> TermsLine
-    ensures { λ r. ⌜ termsMeans (now (text .entry)) r ≡ readTerms (drop at (now (text .entry))) ⌝ }
+// Line 2 at an index, with so many numbers after the method: its fields first, then the method, then the numbers.
+fn read_terms(text: &[u8], at: usize, numbers: usize) -> TermsLine
+    requires { ⌜ numbers ≤ 2 ⌝ }
+    ensures { λ r. ⌜ TermsRead numbers (now (text .entry)) at r ⌝ }
 {
     let Found::At(comma) = find_end(text, at, b',') else {
         return TermsLine::Refused(Refusal::Malformed);
     };
     let mut values = [0u32; 2];
-    let RowEnd::At(next) = read_row(text, comma + 1, &mut values) else {
-        return TermsLine::Refused(refuse_terms(text, at, comma));
+    let RowEnd::At(next) = read_row(text, comma + 1, &mut values[..numbers]) else {
+        return TermsLine::Refused(refuse_terms(text, at, comma, numbers));
     };
     let Named::Method(method) = read_method(text, at, comma) else {
         return TermsLine::Refused(Refusal::UnknownMethod);
     };
-    TermsLine::Terms(
-        Terms {
-            method,
-            exercised: Contracts(values[0]),
-            draw: values[1],
-        },
-        next,
-    )
+    TermsLine::Terms(terms_of(method, Contracts(values[0]), values[1]), next)
 }
 
 // Lines 1 to 3 of a text that is not too long.
 pub fn read_head(text: &[u8]) -> HeadLines
-    ensures { λ r. ⌜ headMeans (now (text .entry)) r ≡ readHead (now (text .entry)) ⌝ }
+    ensures { λ r. ⌜ HeadRead (now (text .entry)) r ⌝ }
 {
     if text.len() > 32768 {
         return HeadLines::Refused(Refusal::TextTooLong);
     }
-    let Names::Line(_, line2) = read_names(text, 0, Heading::Terms) else {
+    let TermsNames::Line(names, line2) = read_terms_names(text, 0) else {
         return HeadLines::Refused(Refusal::NamesLine);
     };
-    match read_terms(text, line2) {
+    match read_terms(text, line2, terms_numbers(names)) {
         TermsLine::Refused(refusal) => HeadLines::Refused(refusal),
         TermsLine::Terms(terms, line3) => {
-            let Names::Line(heading, lines) = read_columns(text, line3) else {
+            let PositionNames::Line(columns, lines) = read_position_names(text, line3) else {
                 return HeadLines::Refused(Refusal::NamesLine);
             };
-            HeadLines::Head(terms, form_of(heading), is_coded(heading), lines)
+            let form = columns.form;
+            HeadLines::Head(terms, form, columns.coded, lines)
         }
     }
 }

@@ -15,7 +15,7 @@ use Rattle.forms.specs.Forms.{Listing, changed}
 use Rattle.forms.proofs.FormLaws.{change-is, changed-back, changed-small, changed-length}
 use Rattle.text_rules.specs.Numbers.{LARGEST}
 use Rattle.text_rules.specs.Fields.{Text}
-use Rattle.text_rules.specs.Rows.{writeRow, writeRows, rowOf, rowsOf}
+use Rattle.text_rules.specs.Rows.{writeParted, writeRow, writeRows, rowOf, rowsOf}
 use Rattle.text_rules.specs.Text.{MOST_BYTES, readText, writeHead, columnsBy, columns, textWith, writesCodes, writeText}
 use Rattle.text_rules.specs.Lists.{Columns}
 use Rattle.text_rules.specs.Calls.{writeInto, changedInto, changeInto, MOST_CHANGED, lengthOf}
@@ -56,7 +56,7 @@ changed-writable l o w h =
 
 -- a line with a number of at most eight digits has at most 31 bytes
 line-short : (code account n : ℕ) → n < 10 ^ 8 → (length (writeRow (code ∷ account ∷ n ∷ [])) ≤ 31) × (length (writeRow (account ∷ n ∷ [])) ≤ 31)
-unfolding writeRow
+unfolding writeParted
 line-short code account n small =
     let digits = digits-within 7 n small in (
       omega (arith, length-row code (account ∷ n ∷ []), length-row account (n ∷ []), length-row n [], digits-few code, digits-few account),

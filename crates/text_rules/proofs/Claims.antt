@@ -1,30 +1,33 @@
 -- Document 01's case M and its refusals, and document 02's leading zeros, codes, last numbers and change, proved of the definitions by computation. Texts at the limit of 32,768 bytes: `series_text_test/proofs/LargestTexts.antt`.
-use Prim.Native.Nat.{ℕ, zero, suc}
+use Prim.Native.Nat.{ℕ, zero, suc, _-_}
 use Prim.Native.String.{String}
 use mathlib.Core.Path.{_≡_, refl}
 use mathlib.Core.Bool.{Bool, true, false}
 use mathlib.Core.List.{List, [], _∷_, _++_, map}
-use lib.ListN.{replicate}
+use lib.ListN.{length, replicate}
 use Rattle.series.specs.Ascii.{ascii}
 use Rattle.series.specs.Results.{Result, refused, value, _>>=_, status}
+use Rattle.series.specs.Series.{termsOf}
+use Rattle.series.specs.Outputs.{onto, lent}
 use Rattle.series.specs.Places.{total}
-use Rattle.series.specs.Refusals.{first, lengthRows, standsIn, accountRefused, positionRows, listVerdict}
+use Rattle.series.specs.Refusals.{first, lengthRows, roomRows, standsIn, without, accountRefused, positionRows, listRows, listVerdict}
 use Rattle.forms.specs.Forms.{Listing, differences, sums, listVerdictIn, changed}
 use Rattle.forms.specs.declared.Form.{Form}
 use Rattle.series.specs.Sums.{listed}
 use Rattle.series.specs.declared.Method.{Method}
 use Rattle.text_rules.specs.Numbers.{digit, digits, spelled, amountFrom, amount, numeral, number, decimalIn, decimal}
 use Rattle.text_rules.specs.Fields.{Text, Read, ends, field, past, fieldBy, endBefore, readFields, writeNumber}
-use Rattle.text_rules.specs.Rows.{numbers, readRow, readRows, writeRow, writeRows, rowsOf, column}
-use Rattle.text_rules.specs.Names.{line1, line3, namesLine, headingOf, afterLine, headingOr, readNames}
+use Rattle.text_rules.specs.Rows.{numbers, readRow, readRows, writeParted, writeRows, rowsOf, column}
+use Rattle.text_rules.specs.Names.{line1, line3, termsLine, codeName, accountName, formName, accountLine, positionsLine, columnsIn, afterLine, namesOr, readNames}
 use Rattle.text_rules.specs.Letters.{letter, methodAmong, methodBy, methodOf}
 use Rattle.text_rules.specs.Text.{readTerms, readHead, readPositions, readText, writeTerms, writeHead, textWith, sameNumbers, writesCodes, writeText}
-use Rattle.text_rules.specs.Calls.{readInto, evenly, lineCount, headAndLines, writeInto, changedInto, changeInto, lengthOf}
-use Rattle.text_rules.specs.declared.Heading.{Heading}
+use Rattle.text_rules.specs.Calls.{ListsRead, readInto, evenly, lineCount, headAndLines, linesInto, writeInto, changedInto, changeInto, tableInto, noteInto, lengthOf}
+use Rattle.text_rules.specs.declared.TermsColumns.{TermsColumns}
+use Rattle.text_rules.specs.declared.PositionColumns.{PositionColumns}
 
 -- the line `unfolding` names every definition that reading computes with
 reading : Text → Result Listing
-unfolding digit digits spelled amountFrom amount numeral number ends field past fieldBy endBefore readFields numbers readRow readRows column namesLine afterLine headingOr readNames letter methodAmong methodBy methodOf readTerms readHead readPositions readText ascii
+unfolding digit digits spelled amountFrom amount numeral number ends field past fieldBy endBefore readFields numbers readRow readRows column termsLine codeName accountName formName accountLine positionsLine afterLine namesOr readNames letter methodAmong methodBy methodOf readTerms readHead readPositions readText ascii
 reading s = readText s
 
 -- case M: each code is its account
@@ -32,7 +35,7 @@ pub M : Listing
 M =
     record {
       form = Form.Shorts;
-      terms = record { method = Method.Lottery; exercised = record { 0 = 13 }; draw = 4855 };
+      terms = termsOf Method.Lottery 13 4855;
       codes = 1 ∷ 2 ∷ 3 ∷ 4 ∷ 5 ∷ [];
       accounts = 1 ∷ 2 ∷ 3 ∷ 4 ∷ 5 ∷ [];
       numbers = 5 ∷ 8 ∷ 2 ∷ 10 ∷ 11 ∷ [];
@@ -58,7 +61,7 @@ pub M-coded : Listing
 M-coded =
     record {
       form = Form.Shorts;
-      terms = record { method = Method.Wheel; exercised = record { 0 = 13 }; draw = 4855 };
+      terms = termsOf Method.Wheel 13 4855;
       codes = 10 ∷ 20 ∷ 30 ∷ 40 ∷ 50 ∷ [];
       accounts = 1 ∷ 3 ∷ 2 ∷ 4 ∷ 5 ∷ [];
       numbers = 5 ∷ 8 ∷ 2 ∷ 10 ∷ 11 ∷ [];
@@ -73,7 +76,7 @@ coded-read = refl
 
 -- the definitions that writing computes with
 writing : Listing → ℕ → Result Text
-unfolding ascii decimalIn decimal writeNumber endBefore writeRow writeRows listed rowsOf namesLine letter writeTerms writeHead textWith sameNumbers writesCodes writeText evenly lineCount headAndLines writeInto
+unfolding ascii decimalIn decimal writeNumber endBefore writeParted writeRows listed rowsOf termsLine codeName accountName formName accountLine positionsLine letter writeTerms writeHead textWith sameNumbers writesCodes writeText evenly lineCount headAndLines writeInto
 writing t room = writeInto t room
 
 -- without the code column
@@ -93,7 +96,7 @@ repeated (suc n) t = t ++ repeated n t
 
 -- lines 1 to 3, as they should be, with the code column or without it
 pub head : Bool → Text
-head c = ascii "method,exercised,draw\nW,1,1\n" ++ namesLine (headingOf Form.Shorts c)
+head c = ascii "method,exercised,draw\nW,1,1\n" ++ positionsLine (columnsIn Form.Shorts c)
 
 -- a text and the number of its refusal, 0 where it is read
 pub record TextCase : Type 0 where
@@ -106,7 +109,7 @@ whole n s = record { number = n; text = ascii s }
 
 -- a text after a good line 1
 abbrev terms : ℕ → String → TextCase
-terms n s = record { number = n; text = namesLine Heading.Terms ++ ascii s }
+terms n s = record { number = n; text = termsLine TermsColumns.MethodExercisedDraw ++ ascii s }
 
 -- a text after three good lines
 abbrev afterHead : Bool → ℕ → String → TextCase
@@ -240,7 +243,7 @@ pub record FieldCase : Type 0 where
 -- a series of one position under W
 abbrev one : ℕ → ℕ → ℕ → ℕ → ℕ → Listing
 one exercised draw code account short =
-    record { form = Form.Shorts; terms = record { method = Method.Wheel; exercised = record { 0 = exercised }; draw = draw }; codes = code ∷ []; accounts = account ∷ []; numbers = short ∷ [] }
+    record { form = Form.Shorts; terms = termsOf Method.Wheel exercised draw; codes = code ∷ []; accounts = account ∷ []; numbers = short ∷ [] }
 
 -- the account, which is the code too, the shorts, the code, S and the draw
 pub fields : List FieldCase
@@ -250,8 +253,8 @@ fields =
     record { text = λ d. head true ++ d ++ ascii ",7,2\n"; series = λ n. one 1 1 n 7 2 } ∷
     record { text = λ d. head true ++ ascii "9," ++ d ++ ascii ",2\n"; series = λ n. one 1 1 9 n 2 } ∷
     record { text = λ d. head true ++ ascii "9,7," ++ d ++ ascii "\n"; series = λ n. one 1 1 9 7 n } ∷
-    record { text = λ d. namesLine Heading.Terms ++ ascii "W," ++ d ++ ascii ",1\naccount,short\n7,2\n"; series = λ n. one n 1 7 7 2 } ∷
-    record { text = λ d. namesLine Heading.Terms ++ ascii "W,1," ++ d ++ ascii "\naccount,short\n7,2\n"; series = λ n. one 1 n 7 7 2 } ∷ []
+    record { text = λ d. termsLine TermsColumns.MethodExercisedDraw ++ ascii "W," ++ d ++ ascii ",1\naccount,short\n7,2\n"; series = λ n. one n 1 7 7 2 } ∷
+    record { text = λ d. termsLine TermsColumns.MethodExercisedDraw ++ ascii "W,1," ++ d ++ ascii "\naccount,short\n7,2\n"; series = λ n. one 1 n 7 7 2 } ∷ []
 
 -- each spelling in each field: the series with its number there, or 13
 pub spellings-judged : map (λ f. map (λ c. readText (f .text (c .digits))) spellings) fields ≡ map (λ f. map (λ c. c .number >>= λ n. value (f .series n)) spellings) fields
@@ -260,62 +263,76 @@ spellings-judged = refl
 
 -- ---- the names lines
 
--- the headings that are known, a text, and what reading its names line gives
-pub record NamesRow : Type 0 where
-  pub known : List Heading
+-- a text, and what reading its names line gives
+pub record NamesRow (A : Type 0) : Type 0 where
   pub text : Text
-  pub answer : Result (Read Heading)
+  pub answer : Result (Read A)
 
--- the heading h is found in the text, and what follows its line is left
-abbrev found : List Heading → String → Heading → String → NamesRow
-found known s h rest = record { known = known; text = ascii s; answer = value (record { found = h; rest = ascii rest }) }
+-- the columns c are found in the text, and what follows their line is left
+abbrev found : {A : Type 0} → String → A → String → NamesRow A
+found s c rest = record { text = ascii s; answer = value (record { found = c; rest = ascii rest }) }
 
--- no known heading is found in the text
-abbrev unknown : List Heading → String → NamesRow
-unknown known s = record { known = known; text = ascii s; answer = refused 12 }
+-- no known line is found in the text
+abbrev unknown : {A : Type 0} → String → NamesRow A
+unknown s = record { text = ascii s; answer = refused 12 }
 
-pub names : List NamesRow
-names =
+-- line 1
+pub termsNames : List (NamesRow TermsColumns)
+termsNames =
     -- the line, and nothing after it or a byte too many
-    found line1 "method,exercised,draw\n" Heading.Terms "" ∷
-    found line1 "method,exercised,draw\nW" Heading.Terms "W" ∷
-    found line3 "account,short\n" Heading.Positions "" ∷
-    found line3 "account,short\n1" Heading.Positions "1" ∷
-    found line3 "code,account,short\n" Heading.CodedPositions "" ∷
-    found line3 "code,account,short\n1" Heading.CodedPositions "1" ∷
-    found line3 "account,last\n" Heading.LastNumbers "" ∷
-    found line3 "account,last\n1" Heading.LastNumbers "1" ∷
-    found line3 "code,account,last\n" Heading.CodedLastNumbers "" ∷
-    found line3 "code,account,last\n1" Heading.CodedLastNumbers "1" ∷
+    found "method,exercised,draw\n" TermsColumns.MethodExercisedDraw "" ∷
+    found "method,exercised,draw\nW" TermsColumns.MethodExercisedDraw "W" ∷
     -- no byte 10, a byte too many before it, a byte too few
-    unknown line1 "method,exercised,draw" ∷
-    unknown line1 "method,exercised,draws\n" ∷
-    unknown line1 "method,exercised,dra\n" ∷
-    unknown line3 "account,short" ∷
-    unknown line3 "account,shorts\n" ∷
-    unknown line3 "account,shor\n" ∷
-    unknown line3 "code,account,short" ∷
-    unknown line3 "code,account,shorts\n" ∷
-    unknown line3 "code,account,shor\n" ∷
-    unknown line3 "account,last" ∷
-    unknown line3 "account,lasts\n" ∷
-    unknown line3 "account,las\n" ∷
-    unknown line3 "code,account,last" ∷
-    unknown line3 "code,account,lasts\n" ∷
-    unknown line3 "code,account,las\n" ∷
-    -- the words of line 3 in the place of line 1, and of line 1 in the place of line 3
-    unknown line1 "account,short\n" ∷
-    unknown line1 "code,account,short\n" ∷
-    unknown line1 "account,last\n" ∷
-    unknown line1 "code,account,last\n" ∷
-    unknown line3 "method,exercised,draw\n" ∷
+    unknown "method,exercised,draw" ∷
+    unknown "method,exercised,draws\n" ∷
+    unknown "method,exercised,dra\n" ∷
+    -- the words of line 3
+    unknown "account,short\n" ∷
+    unknown "code,account,short\n" ∷
+    unknown "account,last\n" ∷
+    unknown "code,account,last\n" ∷
     -- no text
-    unknown line1 "" ∷
-    unknown line3 "" ∷ []
+    unknown "" ∷ []
 
-pub names-judged : map (λ r. readNames (r .known) (r .text)) names ≡ map (λ r. r .answer) names
-unfolding reading names
-names-judged = refl
+-- line 3
+pub positionNames : List (NamesRow PositionColumns)
+positionNames =
+    -- the line, and nothing after it or a byte too many
+    found "account,short\n" (columnsIn Form.Shorts false) "" ∷
+    found "account,short\n1" (columnsIn Form.Shorts false) "1" ∷
+    found "code,account,short\n" (columnsIn Form.Shorts true) "" ∷
+    found "code,account,short\n1" (columnsIn Form.Shorts true) "1" ∷
+    found "account,last\n" (columnsIn Form.LastNumbers false) "" ∷
+    found "account,last\n1" (columnsIn Form.LastNumbers false) "1" ∷
+    found "code,account,last\n" (columnsIn Form.LastNumbers true) "" ∷
+    found "code,account,last\n1" (columnsIn Form.LastNumbers true) "1" ∷
+    -- no byte 10, a byte too many before it, a byte too few
+    unknown "account,short" ∷
+    unknown "account,shorts\n" ∷
+    unknown "account,shor\n" ∷
+    unknown "code,account,short" ∷
+    unknown "code,account,shorts\n" ∷
+    unknown "code,account,shor\n" ∷
+    unknown "account,last" ∷
+    unknown "account,lasts\n" ∷
+    unknown "account,las\n" ∷
+    unknown "code,account,last" ∷
+    unknown "code,account,lasts\n" ∷
+    unknown "code,account,las\n" ∷
+    -- the words in another order, twice, or not all of them
+    unknown "account,code,short\n" ∷
+    unknown "code,code,account,short\n" ∷
+    unknown "code,short\n" ∷
+    unknown "account,\n" ∷
+    unknown "short\n" ∷
+    -- the words of line 1
+    unknown "method,exercised,draw\n" ∷
+    -- no text
+    unknown "" ∷ []
+
+pub names-judged : (map (λ r. readNames termsLine line1 (r .text)) termsNames ≡ map (λ r. r .answer) termsNames) × (map (λ r. readNames positionsLine line3 (r .text)) positionNames ≡ map (λ r. r .answer) positionNames)
+unfolding reading termsNames positionNames
+names-judged = (refl, refl)
 
 -- ---- writing
 
@@ -368,7 +385,7 @@ pub M-lasts : Listing
 M-lasts =
     record {
       form = Form.LastNumbers;
-      terms = record { method = Method.Lottery; exercised = record { 0 = 13 }; draw = 4855 };
+      terms = termsOf Method.Lottery 13 4855;
       codes = 1 ∷ 2 ∷ 3 ∷ 4 ∷ 5 ∷ [];
       accounts = 1 ∷ 2 ∷ 3 ∷ 4 ∷ 5 ∷ [];
       numbers = 5 ∷ 13 ∷ 15 ∷ 25 ∷ 36 ∷ [];
@@ -385,14 +402,14 @@ pub lasts-written : writeText M-lasts ≡ lasts-text
 unfolding writing M-lasts lasts-text
 lasts-written = refl
 
--- no last number is judged in reading or writing: they fall, and are 0 and the largest number
-pub unjudged : readText (ascii "method,exercised,draw\nW,1,1\ncode,account,last\n1,9,4294967295\n2,8,0\n") ≡ value (record { form = Form.LastNumbers; terms = record { method = Method.Wheel; exercised = record { 0 = 1 }; draw = 1 }; codes = 1 ∷ 2 ∷ []; accounts = 9 ∷ 8 ∷ []; numbers = 4294967295 ∷ 0 ∷ [] })
+-- no last number is judged in reading: they fall, and are 0 and the largest number. Nor in writing: `unjudged-written` below
+pub unjudged : readText (ascii "method,exercised,draw\nW,1,1\ncode,account,last\n1,9,4294967295\n2,8,0\n") ≡ value (record { form = Form.LastNumbers; terms = termsOf Method.Wheel 1 1; codes = 1 ∷ 2 ∷ []; accounts = 9 ∷ 8 ∷ []; numbers = 4294967295 ∷ 0 ∷ [] })
 unfolding reading
 unjudged = refl
 
 -- the definitions that the change computes with
 changing : Text → ℕ → Result Text
-unfolding reading writing differences sums listVerdictIn listVerdict first lengthRows positionRows accountRefused standsIn total changed changedInto changeInto
+unfolding reading writing differences sums listVerdictIn listVerdict without listRows first lengthRows roomRows positionRows accountRefused standsIn total changed changedInto changeInto
 changing s room = changeInto s room
 
 -- a text, the length of the output, and the changed text or the refusal
@@ -447,3 +464,118 @@ changeCases =
 pub changes-judged : map (λ c. changeInto (ascii (c .text)) (c .room)) changeCases ≡ map (λ c. c .answer >>= λ t. value (ascii t)) changeCases
 unfolding changing changeCases
 changes-judged = refl
+
+-- ---- the room for a change
+
+-- with no room at all each refusal of the text and of its list stands, and what is not refused meets 4
+pub without-room : map (λ c. changeInto (ascii (c .text)) 0) changeCases ≡ map (λ c. c .answer >>= λ t. refused 4) changeCases
+unfolding changing changeCases
+without-room = refl
+
+-- a changed text needs all its bytes: one less is 4, and as many are enough
+pub one-byte-less : map (λ c. c .answer >>= λ t. changeInto (ascii (c .text)) (length (ascii t) - 1)) changeCases ≡ map (λ c. c .answer >>= λ t. refused 4) changeCases
+unfolding changing changeCases
+one-byte-less = refl
+
+pub room-enough : map (λ c. c .answer >>= λ t. changeInto (ascii (c .text)) (length (ascii t))) changeCases ≡ map (λ c. c .answer >>= λ t. value (ascii t)) changeCases
+unfolding changing changeCases
+room-enough = refl
+
+-- ---- what writing does not judge
+
+-- lists under any method in a form, and their lines from line 2 on, after the method
+pub record Unjudged : Type 0 where
+  pub form : Form
+  pub codes : List ℕ
+  pub accounts : List ℕ
+  pub numbers : List ℕ
+  pub text : String
+
+-- accounts 1 and 2, which are their codes
+abbrev numbered : Form → ℕ → ℕ → String → Unjudged
+numbered f m n s = record { form = f; codes = 1 ∷ 2 ∷ []; accounts = 1 ∷ 2 ∷ []; numbers = m ∷ n ∷ []; text = s }
+
+-- two positions of one contract each
+abbrev ordered : List ℕ → List ℕ → String → Unjudged
+ordered codes accounts s = record { form = Form.Shorts; codes = codes; accounts = accounts; numbers = 1 ∷ 1 ∷ []; text = s }
+
+pub unjudgedLists : List Unjudged
+unjudgedLists =
+    -- last numbers that rise, repeat, fall, begin with 0, and pass 10,000,000
+    numbered Form.LastNumbers 5 13 ",0,0\naccount,last\n1,5\n2,13\n" ∷
+    numbered Form.LastNumbers 5 5 ",0,0\naccount,last\n1,5\n2,5\n" ∷
+    numbered Form.LastNumbers 5 4 ",0,0\naccount,last\n1,5\n2,4\n" ∷
+    numbered Form.LastNumbers 0 5 ",0,0\naccount,last\n1,0\n2,5\n" ∷
+    numbered Form.LastNumbers 10000000 10000001 ",0,0\naccount,last\n1,10000000\n2,10000001\n" ∷
+    -- shorts of 0, and above 10,000,000
+    numbered Form.Shorts 0 0 ",0,0\naccount,short\n1,0\n2,0\n" ∷
+    numbered Form.Shorts 4294967295 1 ",0,0\naccount,short\n1,4294967295\n2,1\n" ∷
+    -- accounts that fall, repeat and are 0, with codes that do not; codes that fall, repeat and are 0
+    ordered (1 ∷ 2 ∷ []) (9 ∷ 8 ∷ []) ",0,0\ncode,account,short\n1,9,1\n2,8,1\n" ∷
+    ordered (1 ∷ 2 ∷ []) (9 ∷ 9 ∷ []) ",0,0\ncode,account,short\n1,9,1\n2,9,1\n" ∷
+    ordered (1 ∷ 2 ∷ []) (0 ∷ 9 ∷ []) ",0,0\ncode,account,short\n1,0,1\n2,9,1\n" ∷
+    ordered (2 ∷ 1 ∷ []) (8 ∷ 9 ∷ []) ",0,0\ncode,account,short\n2,8,1\n1,9,1\n" ∷
+    ordered (2 ∷ 2 ∷ []) (8 ∷ 9 ∷ []) ",0,0\ncode,account,short\n2,8,1\n2,9,1\n" ∷
+    ordered (0 ∷ 2 ∷ []) (8 ∷ 9 ∷ []) ",0,0\ncode,account,short\n0,8,1\n2,9,1\n" ∷
+    -- no positions
+    record { form = Form.LastNumbers; codes = []; accounts = []; numbers = []; text = ",0,0\naccount,last\n" } ∷ []
+
+-- each is written under each method, with S and a draw of 0
+pub unjudged-written : map (λ m. map (λ u. writeInto (record { form = u .form; terms = termsOf m 0 0; codes = u .codes; accounts = u .accounts; numbers = u .numbers }) 32768) unjudgedLists) (Method.Wheel ∷ Method.ProRata ∷ Method.Lottery ∷ Method.RemainderDraw ∷ [])
+    ≡ map (λ l. map (λ u. value (termsLine TermsColumns.MethodExercisedDraw ++ (l ∷ ascii (u .text)))) unjudgedLists) (ascii "WPLR")
+unfolding writing unjudgedLists
+unjudged-written = refl
+
+-- ---- tables and notes
+
+-- the definitions that writing a table or a note computes with
+tabling : Text → List ℕ → List ℕ → ℕ → Result Text
+unfolding writing linesInto tableInto noteInto
+tabling names accounts counts room = tableInto names accounts counts room
+
+-- what is written to an output of a length, and the text
+pub record LinesCase : Type 0 where
+  pub written : ℕ → Result Text
+  pub text : String
+
+abbrev table : String → List ℕ → List ℕ → String → LinesCase
+table names accounts counts s = record { written = tableInto (ascii names) accounts counts; text = s }
+
+abbrev note : String → ℕ → String → LinesCase
+note names n s = record { written = noteInto (ascii names) n; text = s }
+
+pub linesCases : List LinesCase
+linesCases =
+    table "account,assigned\n" (7 ∷ 10 ∷ []) (0 ∷ 4294967295 ∷ []) "account,assigned\n7,0\n10,4294967295\n" ∷
+    table "account,assigned\n" [] [] "account,assigned\n" ∷
+    table "" (3 ∷ []) (2 ∷ []) "3,2\n" ∷
+    note "refused\n" 4 "refused\n4\n" ∷
+    note "refused\n" 20 "refused\n20\n" ∷
+    note "" 4294967295 "4294967295\n" ∷ []
+
+-- with room for all bytes, for one more, for one less and for none
+pub lines-judged : map (λ c. let n = length (ascii (c .text)) in c .written n ∷ c .written (suc n) ∷ c .written (n - 1) ∷ c .written 0 ∷ []) linesCases ≡ map (λ c. value (ascii (c .text)) ∷ value (ascii (c .text)) ∷ refused 4 ∷ refused 4 ∷ []) linesCases
+unfolding tabling linesCases
+lines-judged = refl
+
+-- with no room: 1 where the columns differ in length, then 15, and then 4
+abbrev tableOf : ℕ → ℕ → Result Text
+tableOf accounts counts = tableInto (ascii "account,assigned\n") (replicate accounts 1) (replicate counts 1) 0
+
+pub tables-refused : map status (tableOf 1 0 ∷ tableOf 0 1 ∷ tableOf 1025 1024 ∷ tableOf 1024 1025 ∷ tableOf 1025 1025 ∷ tableOf 1024 1024 ∷ []) ≡ 1 ∷ 1 ∷ 1 ∷ 1 ∷ 15 ∷ 4 ∷ []
+unfolding tabling
+tables-refused = refl
+
+-- ---- the lists that reading writes
+
+-- two positions whose codes, accounts and numbers differ
+pub two : Listing
+two = record { form = Form.Shorts; terms = termsOf Method.Wheel 1 1; codes = 1 ∷ 2 ∷ []; accounts = 3 ∷ 4 ∷ []; numbers = 5 ∷ 6 ∷ [] }
+
+-- each stands in its own list, before what stood past them; and after a refusal each list holds what it held
+pub lists-read : ListsRead (value two) (lent (7 ∷ 7 ∷ 7 ∷ []) (1 ∷ 2 ∷ 7 ∷ [])) (lent (8 ∷ 8 ∷ 8 ∷ []) (3 ∷ 4 ∷ 8 ∷ [])) (lent (9 ∷ 9 ∷ []) (5 ∷ 6 ∷ []))
+unfolding two onto
+lists-read = record { codes = refl; accounts = refl; numbers = refl }
+
+pub lists-kept : ListsRead (refused 4) (lent (7 ∷ []) (7 ∷ [])) (lent (8 ∷ []) (8 ∷ [])) (lent (9 ∷ []) (9 ∷ []))
+lists-kept = record { codes = refl; accounts = refl; numbers = refl }

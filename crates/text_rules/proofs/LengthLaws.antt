@@ -17,14 +17,15 @@ use Rattle.series.proofs.ResultLaws.{stepped, not-refused}
 use Rattle.series.proofs.SumLaws.{sum-mono, sum-const, sum-first}
 use Rattle.forms.specs.declared.Form.{Form}
 use Rattle.text_rules.specs.Numbers.{decimal}
-use Rattle.text_rules.specs.Fields.{Text, endBefore, writeNumber}
-use Rattle.text_rules.specs.Rows.{writeRow, writeRows, rowOf, rowsOf}
-use Rattle.text_rules.specs.Names.{namesLine, headingOf}
+use Rattle.text_rules.specs.Fields.{Text, COMMA, NEWLINE, endBefore, writeNumber}
+use Rattle.text_rules.specs.Rows.{writeParted, writeRow, writeRows, rowOf, rowsOf}
+use Rattle.text_rules.specs.Names.{termsLine, columnsIn, positionsLine}
 use Rattle.text_rules.specs.Text.{MOST_LINES, writeTerms, writeHead, columnsBy}
-use Rattle.text_rules.specs.declared.Heading.{Heading}
+use Rattle.text_rules.specs.declared.TermsColumns.{TermsColumns}
 use Rattle.text_rules.specs.Lists.{Columns, Plain}
 use Rattle.text_rules.specs.Calls.{evenly, lineCount, headAndLines}
 use Rattle.text_rules.proofs.FieldLaws.{and-true-parts}
+use Rattle.text_rules.proofs.NameLaws.{code-room, form-room, length-positions}
 use Rattle.text_rules.proofs.RowLaws.{Each, row-few}
 
 pub length-number : (n c : ℕ) → length (writeNumber n c) ≡ length (decimal n) + 1
@@ -33,31 +34,39 @@ length-number n c = length-append (decimal n) (c ∷ [])
 
 -- ---- a row, from number i on
 
--- number i with the byte that ends its field
-abbrev pub numberAt : List ℕ → ℕ → Text
-numberAt row i = writeNumber (getD row i 0) (endBefore (length row - i - 1))
+module _ (part end : ℕ) where
+  -- number i with the byte that ends its field
+  abbrev pub numberAt : List ℕ → ℕ → Text
+  numberAt row i = writeNumber (getD row i 0) (endBefore part end (length row - i - 1))
 
--- what is left of the line after number i - 1 is number i and what is left after it
-pub row-next : (row : List ℕ) (i : ℕ) → i < length row → writeRow (drop i row) ≡ numberAt row i ++ writeRow (drop (i + 1) row)
-unfolding writeRow
-row-next row i lt =
-    let e : length (drop (suc i) row) ≡ length row - i - 1 = length-drop (suc i) row ∙ omega arith in
-    rw (drop-cons row i 0 lt, add-one, e)
+  -- what is left of the row after number i - 1 is number i and what is left after it
+  pub row-next : (row : List ℕ) (i : ℕ) → i < length row → writeParted part end (drop i row) ≡ numberAt row i ++ writeParted part end (drop (i + 1) row)
+  unfolding writeParted
+  row-next row i lt =
+      let e : length (drop (suc i) row) ≡ length row - i - 1 = length-drop (suc i) row ∙ omega arith in
+      rw (drop-cons row i 0 lt, add-one, e)
 
-pub row-next-length : (row : List ℕ) (i : ℕ) → i < length row → length (writeRow (drop i row)) ≡ length (decimal (getD row i 0)) + 1 + length (writeRow (drop (i + 1) row))
-row-next-length row i lt =
-    ap length (row-next row i lt)
-    ∙ length-append (numberAt row i) (writeRow (drop (i + 1) row))
-    ∙ ap (_+ length (writeRow (drop (i + 1) row))) (length-number (getD row i 0) (endBefore (length row - i - 1)))
+  pub row-next-length : (row : List ℕ) (i : ℕ) → i < length row → length (writeParted part end (drop i row)) ≡ length (decimal (getD row i 0)) + 1 + length (writeParted part end (drop (i + 1) row))
+  row-next-length row i lt =
+      ap length (row-next row i lt)
+      ∙ length-append (numberAt row i) (writeParted part end (drop (i + 1) row))
+      ∙ ap (_+ length (writeParted part end (drop (i + 1) row))) (length-number (getD row i 0) (endBefore part end (length row - i - 1)))
+
+  -- nothing is left after the last number
+  pub row-done : (row : List ℕ) (i : ℕ) → length row ≤ i → writeParted part end (drop i row) ≡ []
+  unfolding writeParted
+  row-done row i le = rw (drop-of-length-le row le)
+
+  -- the bytes that part and end a row are one each, whichever they are
+  pub length-parted : (row : List ℕ) → length (writeParted part end row) ≡ length (writeRow row)
+  unfolding writeParted
+  length-parted [] = refl
+  length-parted (n ∷ ns) =
+      omega (arith, length-append (writeNumber n (endBefore part end (length ns))) (writeParted part end ns), length-append (writeNumber n (endBefore COMMA NEWLINE (length ns))) (writeRow ns), length-number n (endBefore part end (length ns)), length-number n (endBefore COMMA NEWLINE (length ns)), length-parted ns)
 
 -- the whole line
 pub length-row : (n : ℕ) (ns : List ℕ) → length (writeRow (n ∷ ns)) ≡ length (decimal n) + 1 + length (writeRow ns)
-length-row n ns = row-next-length (n ∷ ns) 0 (omega arith)
-
--- nothing is left after the last number
-pub row-done : (row : List ℕ) (i : ℕ) → length row ≤ i → writeRow (drop i row) ≡ []
-unfolding writeRow
-row-done row i le = rw (drop-of-length-le row le)
+length-row n ns = row-next-length COMMA NEWLINE (n ∷ ns) 0 (omega arith)
 
 -- ---- rows
 
@@ -109,20 +118,16 @@ rows-room (c ∷ cs) = lines-room (rowOf (c ∷ cs)) (length (c ∷ cs)) (length
 -- ---- lines 1 to 3
 
 -- their length is that of their parts
-pub length-head : (c : Bool) (f : Form) (t : Terms) → length (writeHead c f t) ≡ length (namesLine Heading.Terms) + (2 + length (writeRow (t .exercised .0 ∷ t .draw ∷ []))) + length (namesLine (headingOf f c))
+pub length-head : (c : Bool) (f : Form) (t : Terms) → length (writeHead c f t) ≡ length (termsLine TermsColumns.MethodExercisedDraw) + (2 + length (writeRow (t .exercised .0 ∷ t .draw ∷ []))) + length (positionsLine (columnsIn f c))
 unfolding writeHead writeTerms
 length-head c f t =
-    omega (arith, length-append (namesLine Heading.Terms) (writeTerms t ++ namesLine (headingOf f c)), length-append (writeTerms t) (namesLine (headingOf f c)))
+    omega (arith, length-append (termsLine TermsColumns.MethodExercisedDraw) (writeTerms t ++ positionsLine (columnsIn f c)), length-append (writeTerms t) (positionsLine (columnsIn f c)))
 
-pub columns-room : (f : Form) (c : Bool) → length (namesLine (headingOf f c)) ≤ 19
-unfolding namesLine ascii
-columns-room Form.Shorts false = omega arith
-columns-room Form.Shorts true = omega arith
-columns-room Form.LastNumbers false = omega arith
-columns-room Form.LastNumbers true = omega arith
+pub columns-room : (f : Form) (c : Bool) → length (positionsLine (columnsIn f c)) ≤ 19
+columns-room f c = omega (arith, length-positions f c, code-room c, form-room f)
 
 pub head-room : (c : Bool) (f : Form) (t : Terms) → length (writeHead c f t) ≤ 65
-unfolding namesLine ascii
+unfolding termsLine ascii
 head-room c f t = omega (arith, length-head c f t, columns-room f c, row-few (t .exercised .0 ∷ t .draw ∷ []))
 
 -- ---- a head and lines

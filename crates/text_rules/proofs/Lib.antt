@@ -3,6 +3,7 @@ pub mod RoundTrip
 pub mod ShortestText
 pub mod ChangeLaws
 pub mod Claims
+pub mod NameLaws
 pub mod RowLaws
 pub mod ColumnLaws
 pub mod FieldLaws
@@ -13,3 +14,4 @@ pub mod CopyLaws
 pub mod ReadLaws
 pub mod ReadingLaws
 pub mod LengthLaws
+pub mod WritingLaws

@@ -7,17 +7,15 @@ use borrow.Author.Tests.{lt-ltb, le-ltb}
 use lib.Dec.{ltb}
 use lib.ListN.{length, take, drop}
 use lib.Seq.{length-take-le}
-use Rattle.series.specs.Results.{Result, refused, value, refuse, after}
-use Rattle.series.specs.Outputs.{onto}
+use Rattle.series.specs.Results.{refused, value, refuse}
+use Rattle.series.specs.Outputs.{onto, Lent}
 use Rattle.text_rules.specs.Fields.{Text, Read}
 use Rattle.text_rules.specs.Text.{Head, readHead, readPositions, readText}
-use Rattle.text_rules.specs.Calls.{Handed, readInto, handed}
+use Rattle.text_rules.specs.Calls.{readInto, handed, ReadingCall}
 
--- what reading s hands back, and the lists that it leaves of cs, xs and ys
-abbrev pub ReadLeaves : Text → List ℕ → List ℕ → List ℕ → Result Handed → List ℕ → List ℕ → List ℕ → Type 0
-ReadLeaves s cs xs ys r cs′ xs′ ys′ =
-    let read = readInto s (length cs) (length xs) (length ys) in
-    (r ≡ handed read) × ((cs′ ≡ after read (λ t. onto (t .codes) cs) cs) × ((xs′ ≡ after read (λ t. onto (t .accounts) xs) xs) × (ys′ ≡ after read (λ t. onto (t .numbers) ys) ys)))
+-- a list that stays as it was
+abbrev kept : List ℕ → Lent (List ℕ)
+kept l = record { old = l; new = l }
 
 -- the position lines of u are read: n positions, which stand first in three lists
 pub record PositionsRead (h : Head) (u : Text) (codes accounts numbers : List ℕ) (n : ℕ) : Type 0 where
@@ -27,18 +25,18 @@ pub record PositionsRead (h : Head) (u : Text) (codes accounts numbers : List �
   pub in-numbers : n ≤ length numbers
 
 module _ (s : Text) (cs xs ys : List ℕ) where
-  leaves-refused : (n : ℕ) → readInto s (length cs) (length xs) (length ys) ≡ refused n → ReadLeaves s cs xs ys (refused n) cs xs ys
+  leaves-refused : (n : ℕ) → readInto s (length cs) (length xs) (length ys) ≡ refused n → ReadingCall s (refused n) (kept cs) (kept xs) (kept ys)
   unfolding handed
-  leaves-refused n e = (rw e, (rw e, (rw e, rw e)))
+  leaves-refused n e = record { answered = rw e; written = record { codes = rw e; accounts = rw e; numbers = rw e } }
 
   -- a fault in lines 1 to 3
-  pub head-refused : {n : ℕ} → refused n ≡ readHead s → ReadLeaves s cs xs ys (refused n) cs xs ys
+  pub head-refused : {n : ℕ} → refused n ≡ readHead s → ReadingCall s (refused n) (kept cs) (kept xs) (kept ys)
   unfolding readInto readText
   head-refused {n} e = leaves-refused n (rw (← e))
 
   module _ {h : Read Head} (hh : value h ≡ readHead s) where
     -- a fault in a position line
-    pub positions-fault : {n : ℕ} → refused n ≡ readPositions (h .found) (h .rest) → ReadLeaves s cs xs ys (refused n) cs xs ys
+    pub positions-fault : {n : ℕ} → refused n ≡ readPositions (h .found) (h .rest) → ReadingCall s (refused n) (kept cs) (kept xs) (kept ys)
     unfolding readInto readText
     positions-fault {n} e = leaves-refused n (rw (← hh, ← e))
 
@@ -49,28 +47,33 @@ module _ (s : Text) (cs xs ys : List ℕ) where
       unfolding readInto readText
       text-read = rw (← hh, ← p .reads, length-take-le n accounts (p .in-accounts))
 
-      read-short : (ltb (length cs) n || (ltb (length xs) n || ltb (length ys) n)) ≡ true → ReadLeaves s cs xs ys (refused 4) cs xs ys
+      read-short : (ltb (length cs) n || (ltb (length xs) n || ltb (length ys) n)) ≡ true → ReadingCall s (refused 4) (kept cs) (kept xs) (kept ys)
       read-short over = leaves-refused 4 (text-read ∙ rw over)
 
       -- the first list is too short
-      pub codes-short : length cs < n → ReadLeaves s cs xs ys (refused 4) cs xs ys
+      pub codes-short : length cs < n → ReadingCall s (refused 4) (kept cs) (kept xs) (kept ys)
       codes-short lt = read-short (rw (lt-ltb (length cs) n lt))
 
       -- the second list is too short
-      pub accounts-short : length xs < n → ReadLeaves s cs xs ys (refused 4) cs xs ys
+      pub accounts-short : length xs < n → ReadingCall s (refused 4) (kept cs) (kept xs) (kept ys)
       accounts-short lt = read-short (rw (lt-ltb (length xs) n lt) (or-true (ltb (length cs) n)))
 
       -- the third list is too short
-      pub numbers-short : length ys < n → ReadLeaves s cs xs ys (refused 4) cs xs ys
+      pub numbers-short : length ys < n → ReadingCall s (refused 4) (kept cs) (kept xs) (kept ys)
       numbers-short lt = read-short (rw (lt-ltb (length ys) n lt, or-true (ltb (length xs) n)) (or-true (ltb (length cs) n)))
 
       -- the lists are filled
       pub read-all : n ≤ length cs → n ≤ length xs → n ≤ length ys → {cs′ xs′ ys′ : List ℕ} → cs′ ≡ take n codes ++ drop n cs → xs′ ≡ take n accounts ++ drop n xs → ys′ ≡ take n numbers ++ drop n ys
-          → ReadLeaves s cs xs ys (value (record { form = h .found .form; terms = h .found .terms; positions = n })) cs′ xs′ ys′
+          → ReadingCall s (value (record { form = h .found .form; terms = h .found .terms; positions = n })) (record { old = cs; new = cs′ }) (record { old = xs; new = xs′ }) (record { old = ys; new = ys′ })
       unfolding handed onto
       read-all lc lx ly ec ex ey =
           let z : readInto s (length cs) (length xs) (length ys) ≡ value (record { form = h .found .form; terms = h .found .terms; codes = take n codes; accounts = take n accounts; numbers = take n numbers })
-          = text-read ∙ rw (le-ltb (length cs) n lc, le-ltb (length xs) n lx, le-ltb (length ys) n ly) in (
-            rw (z, length-take-le n accounts (p .in-accounts)),
-            (ec ∙ rw (z, length-take-le n codes (p .in-codes)), (ex ∙ rw (z, length-take-le n accounts (p .in-accounts)), ey ∙ rw (z, length-take-le n numbers (p .in-numbers)))),
-          )
+          = text-read ∙ rw (le-ltb (length cs) n lc, le-ltb (length xs) n lx, le-ltb (length ys) n ly) in
+          record {
+            answered = rw (z, length-take-le n accounts (p .in-accounts));
+            written = record {
+              codes = ec ∙ rw (z, length-take-le n codes (p .in-codes));
+              accounts = ex ∙ rw (z, length-take-le n accounts (p .in-accounts));
+              numbers = ey ∙ rw (z, length-take-le n numbers (p .in-numbers));
+            };
+          }

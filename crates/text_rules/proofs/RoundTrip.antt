@@ -17,13 +17,14 @@ use Rattle.series.proofs.ResultLaws.{value-is, stepped, not-refused}
 use Rattle.text_rules.specs.Numbers.{LARGEST, decimal}
 use Rattle.text_rules.specs.Fields.{Text, COMMA, ends, fieldBy}
 use Rattle.text_rules.specs.Rows.{rowsOf}
-use Rattle.text_rules.specs.Names.{line3, namesLine, headingOf, formOf, coded, afterLine, headingOr, readNames}
+use Rattle.text_rules.specs.Names.{termsLine, columnsIn, positionsLine}
 use Rattle.text_rules.specs.Letters.{letter, methodAmong, methodBy, methodOf}
 use Rattle.text_rules.specs.Text.{MOST_BYTES, MOST_LINES, readTerms, readHead, lineWidth, listingOf, readPositions, readText, writeTerms, writeHead, columns, textWith, sameNumbers, writesCodes, writeText}
 use Rattle.text_rules.specs.Lists.{Columns, Plain}
 use Rattle.text_rules.specs.Calls.{lineCount, headAndLines, writeInto, lengthOf}
-use Rattle.text_rules.specs.declared.Heading.{Heading}
+use Rattle.text_rules.specs.declared.TermsColumns.{TermsColumns}
 use Rattle.text_rules.proofs.FieldLaws.{prefixed, field-byte, field-end, and-true-parts}
+use Rattle.text_rules.proofs.NameLaws.{names-back, columns-back}
 use Rattle.text_rules.proofs.RowLaws.{Fits, fits-none, fits-more, Figures, Each, fieldsLine, FieldsSpell, numbers-read, fields-read, row-spells, row-line, line-few, fieldsLines, LinesSpell, rows-read, rows-spell, rows-lines, lines-few, rows-fit}
 use Rattle.text_rules.proofs.LengthLaws.{columns-room, even-columns, lines-known, lines-written}
 use Rattle.text_rules.proofs.ColumnLaws.{length-rows, column-rows}
@@ -38,15 +39,6 @@ pub record Writable (t : Listing) : Type 0 where
   pub lists : Columns (t .codes) (t .accounts) (t .numbers)
 
 -- ---- line by line
-
-after-back : (p s : Text) → afterLine p (p ++ s) ≡ value s
-unfolding afterLine
-after-back [] s = refl
-after-back (a ∷ p) s = rw (eq-eqb a a refl) (after-back p s)
-
-names-back : (h : Heading) (known : List Heading) (s : Text) → readNames (h ∷ known) (namesLine h ++ s) ≡ value (record { found = h; rest = s })
-unfolding readNames headingOr
-names-back h known s = rw (after-back (namesLine h) s)
 
 letter-field : (m : Method) (s : Text) → fieldBy COMMA (letter m ∷ COMMA ∷ s) ≡ value (record { found = letter m ∷ []; rest = s })
 unfolding prefixed letter ends
@@ -69,45 +61,24 @@ letter-method Method.RemainderDraw = refl
 unfoldable pub spelledTerms : Method → List Text → Text
 spelledTerms m terms = letter m ∷ COMMA ∷ fieldsLine terms
 
-terms-back : (t : Terms) (terms : List Text) (s : Text) → FieldsSpell terms (t .exercised .0 ∷ t .draw ∷ []) → readTerms (spelledTerms (t .method) terms ++ s) ≡ value (record { found = t; rest = s })
+terms-back : (t : Terms) (terms : List Text) (s : Text) → FieldsSpell terms (t .exercised .0 ∷ t .draw ∷ []) → readTerms 2 (spelledTerms (t .method) terms ++ s) ≡ value (record { found = t; rest = s })
 unfolding readTerms spelledTerms
 terms-back t terms s so =
     let ns : List ℕ = t .exercised .0 ∷ t .draw ∷ [] in
     rw (letter-field (t .method) (fieldsLine terms ++ s), fields-read terms ns s so, letter-method (t .method), numbers-read terms ns so)
 
--- line 3, in either form, with the code column or without it
-columns-back : (f : Form) (c : Bool) (s : Text) → readNames line3 (namesLine (headingOf f c) ++ s) ≡ value (record { found = headingOf f c; rest = s })
-unfolding readNames headingOr afterLine namesLine ascii
-columns-back Form.Shorts false s = names-back Heading.Positions (Heading.CodedPositions ∷ Heading.LastNumbers ∷ Heading.CodedLastNumbers ∷ []) s
-columns-back Form.Shorts true s = names-back Heading.CodedPositions (Heading.LastNumbers ∷ Heading.CodedLastNumbers ∷ []) s
-columns-back Form.LastNumbers false s = names-back Heading.LastNumbers (Heading.CodedLastNumbers ∷ []) s
-columns-back Form.LastNumbers true s = names-back Heading.CodedLastNumbers [] s
-
--- the heading says the form, and whether there is a code
-form-heading : (f : Form) (c : Bool) → formOf (headingOf f c) ≡ f
-form-heading Form.Shorts false = refl
-form-heading Form.Shorts true = refl
-form-heading Form.LastNumbers false = refl
-form-heading Form.LastNumbers true = refl
-
-coded-heading : (f : Form) (c : Bool) → coded (headingOf f c) ≡ c
-coded-heading Form.Shorts false = refl
-coded-heading Form.Shorts true = refl
-coded-heading Form.LastNumbers false = refl
-coded-heading Form.LastNumbers true = refl
-
 -- lines 1 to 3
 unfoldable pub spelledHead : Bool → Form → Method → List Text → Text
-spelledHead c f m terms = namesLine Heading.Terms ++ (spelledTerms m terms ++ namesLine (headingOf f c))
+spelledHead c f m terms = termsLine TermsColumns.MethodExercisedDraw ++ (spelledTerms m terms ++ positionsLine (columnsIn f c))
 
 head-back : (c : Bool) (f : Form) (t : Terms) (terms : List Text) (s : Text) → FieldsSpell terms (t .exercised .0 ∷ t .draw ∷ []) → length (spelledHead c f (t .method) terms ++ s) ≤ MOST_BYTES
     → readHead (spelledHead c f (t .method) terms ++ s) ≡ value (record { found = record { terms = t; form = f; coded = c }; rest = s })
 unfolding readHead spelledHead
 head-back c f t terms s so few =
-    let first : Text = namesLine Heading.Terms in
+    let first : Text = termsLine TermsColumns.MethodExercisedDraw in
     let second : Text = spelledTerms (t .method) terms in
-    let third : Text = namesLine (headingOf f c) in
-    rw (le-ltb MOST_BYTES (length (spelledHead c f (t .method) terms ++ s)) few, append-assoc first (second ++ third) s, append-assoc second third s, names-back Heading.Terms [] (second ++ (third ++ s)), terms-back t terms (third ++ s) so, columns-back f c s, form-heading f c, coded-heading f c)
+    let third : Text = positionsLine (columnsIn f c) in
+    rw (le-ltb MOST_BYTES (length (spelledHead c f (t .method) terms ++ s)) few, append-assoc first (second ++ third) s, append-assoc second third s, names-back termsLine TermsColumns.MethodExercisedDraw [] (second ++ (third ++ s)), terms-back t terms (third ++ s) so, columns-back f c s)
 
 -- the text by the method m, S and the draw spelled by these fields, and the positions by these lines
 unfoldable pub spelledText : Bool → Form → Method → List Text → List (List Text) → Text
@@ -145,16 +116,16 @@ series-back false t plain l =
 
 -- lines 1 and 2 have at most 46 bytes and each number of a position line at most 11, whatever the spellings
 pub spelled-few : (c : Bool) (t : Listing) (terms : List Text) (lines : List (List Text)) → TextSpells c t terms lines
-    → length (spelledText c (t .form) (t .terms .method) terms lines) ≤ 46 + length (namesLine (headingOf (t .form) c)) + 11 * lineWidth c * length (t .accounts)
-unfolding spelledText spelledHead spelledTerms namesLine ascii
+    → length (spelledText c (t .form) (t .terms .method) terms lines) ≤ 46 + length (positionsLine (columnsIn (t .form) c)) + 11 * lineWidth c * length (t .accounts)
+unfolding spelledText spelledHead spelledTerms termsLine ascii
 spelled-few c t terms lines so =
     let m : Method = t .terms .method in
-    let third : Text = namesLine (headingOf (t .form) c) in
-    omega (arith, length-append (spelledHead c (t .form) m terms) (fieldsLines lines), length-append (namesLine Heading.Terms) (spelledTerms m terms ++ third), length-append (spelledTerms m terms) third, line-few terms (t .terms .exercised .0 ∷ t .terms .draw ∷ []) (so .values), rw (position-rows c t (so .lists)) at (lines-few (lineWidth c) lines (rowsOf (columns c t)) (so .rows)))
+    let third : Text = positionsLine (columnsIn (t .form) c) in
+    let first : Text = termsLine TermsColumns.MethodExercisedDraw in
+    omega (arith, length-append (spelledHead c (t .form) m terms) (fieldsLines lines), length-append first (spelledTerms m terms ++ third), length-append (spelledTerms m terms) third, line-few terms (t .terms .exercised .0 ∷ t .terms .draw ∷ []) (so .values), rw (position-rows c t (so .lists)) at (lines-few (lineWidth c) lines (rowsOf (columns c t)) (so .rows)))
 
 -- without the code column a text has at most 22,588 bytes
 pub plain-fits : (t : Listing) (terms : List Text) (lines : List (List Text)) → TextSpells false t terms lines → length (spelledText false (t .form) (t .terms .method) terms lines) ≤ MOST_BYTES
-unfolding namesLine ascii
 plain-fits t terms lines so = omega (arith, spelled-few false t terms lines so, columns-room (t .form) false, so .lists .few)
 
 -- a text whose fields spell the numbers of a series, each in any of its spellings, reads as that series

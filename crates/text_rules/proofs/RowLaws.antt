@@ -14,8 +14,8 @@ use Rattle.series.specs.Sums.{listed}
 use Rattle.series.proofs.ResultLaws.{never, value-is, stepped}
 use Rattle.series.proofs.SumLaws.{listed-cong}
 use Rattle.text_rules.specs.Numbers.{LARGEST, MOST_DIGITS, digits, number, decimal}
-use Rattle.text_rules.specs.Fields.{Text, Read, ends, field, past, fieldBy, endBefore, readFields, writeNumber}
-use Rattle.text_rules.specs.Rows.{numbers, readRow, readRows, writeRow, writeRows, rowOf, rowsOf, column}
+use Rattle.text_rules.specs.Fields.{Text, COMMA, NEWLINE, Read, ends, field, past, fieldBy, endBefore, readFields, writeNumber}
+use Rattle.text_rules.specs.Rows.{numbers, readRow, readRows, writeParted, writeRow, writeRows, rowOf, rowsOf, column}
 use Rattle.text_rules.proofs.ColumnLaws.{listed-all}
 use Rattle.text_rules.proofs.DecimalLaws.{digits-few}
 use Rattle.text_rules.proofs.NumberLaws.{field-spelled}
@@ -56,9 +56,9 @@ each-at P (a ∷ l) d (suc i) each lt = each-at P l d i (each .1) (omega arith)
 -- the fields of a line, each with the byte that ends it
 unfoldable pub fieldsLine : List Text → Text
 fieldsLine [] = []
-fieldsLine (f ∷ fs) = f ++ (endBefore (length fs) ∷ fieldsLine fs)
+fieldsLine (f ∷ fs) = f ++ (endBefore COMMA NEWLINE (length fs) ∷ fieldsLine fs)
 
-end-ends : (k : ℕ) → ends (endBefore k) ≡ true
+end-ends : (k : ℕ) → ends (endBefore COMMA NEWLINE k) ≡ true
 unfolding ends endBefore
 end-ends zero = refl
 end-ends (suc k) = refl
@@ -68,7 +68,7 @@ fields-back : (fs : List Text) (s : Text) → Each (λ f. digits f ≡ true) fs 
 unfolding readFields fieldsLine
 fields-back [] s each = refl
 fields-back (f ∷ fs) s each =
-    let c : ℕ = endBefore (length fs) in
+    let c : ℕ = endBefore COMMA NEWLINE (length fs) in
     rw (append-assoc f (c ∷ fieldsLine fs) s, field-spelled c f (fieldsLine fs ++ s) (end-ends (length fs)) (each .0), fields-back fs s (each .1))
 
 field-split : (s : Text) → s ≡ field s ++ drop (length (field s)) s
@@ -108,11 +108,11 @@ fields-are zero s x e =
     let is : _≡_ {A = Read (List Text)} (record { found = []; rest = s }) x = value-is e in
     subst (Begins zero s) is (record { text = refl; long = refl })
 fields-are (suc k) s x e =
-    let f = stepped (fieldBy (endBefore k) s) _ x e in
+    let f = stepped (fieldBy (endBefore COMMA NEWLINE k) s) _ x e in
     let gs = stepped (readFields k (f .from .rest)) _ x (f .on) in
     let is : _≡_ {A = Read (List Text)} (record { found = f .from .found ∷ gs .from .found; rest = gs .from .rest }) x = value-is (gs .on) in
     let others : Begins k (f .from .rest) (gs .from) = fields-are k (f .from .rest) (gs .from) (gs .step) in
-    let c : ℕ = endBefore k in
+    let c : ℕ = endBefore COMMA NEWLINE k in
     let text : s ≡ (f .from .found ++ (c ∷ fieldsLine (gs .from .found))) ++ gs .from .rest
     = field-is c s (f .from) (f .step)
     ∙ ap (λ (l : Text). f .from .found ++ (c ∷ l)) (others .text)
@@ -195,10 +195,10 @@ row-spells (n ∷ ns) fits = (decimal-spells n (fits 0), row-spells ns (λ i. fi
 
 -- and make its line
 pub row-line : (ns : List ℕ) → writeRow ns ≡ fieldsLine (map decimal ns)
-unfolding writeRow writeNumber fieldsLine
+unfolding writeParted writeNumber fieldsLine
 row-line [] = refl
 row-line (n ∷ ns) =
-    let c : ℕ = endBefore (length ns) in
+    let c : ℕ = endBefore COMMA NEWLINE (length ns) in
     rw (length-map ns decimal) (append-assoc (decimal n) (c ∷ []) (writeRow ns) ∙ ap (λ (l : Text). decimal n ++ (c ∷ l)) (row-line ns))
 
 -- ---- its length: at most ten digits a number, and the byte that ends it
@@ -207,7 +207,7 @@ line-room : (fs : List Text) → Each (λ f. length f ≤ MOST_DIGITS) fs → le
 unfolding fieldsLine
 line-room [] each = omega arith
 line-room (f ∷ fs) each =
-    let c : ℕ = endBefore (length fs) in
+    let c : ℕ = endBefore COMMA NEWLINE (length fs) in
     omega (arith, length-append f (c ∷ fieldsLine fs), each .0, line-room fs (each .1))
 
 pub line-few : (fs : List Text) (ns : List ℕ) → FieldsSpell fs ns → length (fieldsLine fs) ≤ 11 * length ns
@@ -250,7 +250,7 @@ line-begins : (fs : List Text) (s : Text) → 1 ≤ length fs → 0 < length (fi
 unfolding fieldsLine
 line-begins [] s some = absurd (omega arith)
 line-begins (f ∷ fs) s some =
-    let c : ℕ = endBefore (length fs) in
+    let c : ℕ = endBefore COMMA NEWLINE (length fs) in
     omega (arith, length-append (f ++ (c ∷ fieldsLine fs)) s, length-append f (c ∷ fieldsLine fs))
 
 -- lines that spell rows read as the rows

@@ -8,8 +8,7 @@ use native.Mathlib.Numerals.{add-one}
 use borrow.Author.Tests.{eqb-true, ltb-false}
 use lib.Dec.{eqb, ltb}
 use lib.ListN.{length, getD, length-append, length-map}
-use Rattle.series.specs.Ascii.{ascii}
-use Rattle.series.specs.Results.{Result, refused, value, refuse}
+use Rattle.series.specs.Results.{value, refuse}
 use Rattle.forms.specs.Forms.{Listing}
 use Rattle.forms.specs.declared.Form.{Form}
 use Rattle.series.specs.Sums.{listed}
@@ -17,43 +16,20 @@ use Rattle.series.specs.declared.Method.{Method}
 use Rattle.series.specs.declared.Terms.{Terms}
 use Rattle.series.proofs.ResultLaws.{never, value-is, stepped, not-refused}
 use Rattle.text_rules.specs.Numbers.{decimal}
-use Rattle.text_rules.specs.Fields.{Text, COMMA, Read, fieldBy, endBefore, readFields, writeNumber}
-use Rattle.text_rules.specs.Rows.{numbers, readRows, writeRow, writeRows, rowOf, rowsOf, column}
-use Rattle.text_rules.specs.Names.{line1, line3, namesLine, headingOf, formOf, coded, afterLine, headingOr, readNames}
+use Rattle.text_rules.specs.Fields.{Text, COMMA, NEWLINE, Read, fieldBy, endBefore, readFields, writeNumber}
+use Rattle.text_rules.specs.Rows.{numbers, readRows, writeParted, writeRow, writeRows, rowOf, rowsOf, column}
+use Rattle.text_rules.specs.Names.{line1, line3, termsLine, termsNumbers, columnsIn, positionsLine, readNames}
 use Rattle.text_rules.specs.Letters.{letter, methodAmong, methodBy, methodOf}
 use Rattle.text_rules.specs.Lists.{Columns, Plain}
-use Rattle.text_rules.specs.Text.{MOST_BYTES, MOST_LINES, readTerms, Head, readHead, lineWidth, listingOf, readPositions, readText, writeTerms, writeHead, columns, textWith, writesCodes, writeText}
-use Rattle.text_rules.specs.declared.Heading.{Heading}
+use Rattle.text_rules.specs.Text.{MOST_BYTES, MOST_LINES, termsFrom, readTerms, Head, readHead, lineWidth, listingOf, readPositions, readText, writeTerms, writeHead, columns, textWith, writesCodes, writeText}
+use Rattle.text_rules.specs.declared.TermsColumns.{TermsColumns}
 use Rattle.text_rules.proofs.NumberLaws.{padded, padded-length}
 use Rattle.text_rules.proofs.SpellingLaws.{Spells}
+use Rattle.text_rules.proofs.NameLaws.{names-are, only-terms, code-longer}
 use Rattle.text_rules.proofs.RowLaws.{Fits, Each, each-so, Figures, Begins, field-is, fields-are, fieldsLine, FieldsSpell, numbers-are, spell-facts, fieldsLines, LinesSpell, spell-figures, Consists, rows-are, columnsFrom, rows-of-columns}
 use Rattle.text_rules.proofs.ColumnLaws.{two-numbers}
 use Rattle.text_rules.proofs.LengthLaws.{linesOf, lines-next-length, length-head}
 use Rattle.text_rules.proofs.RoundTrip.{Writable, spelledTerms, spelledHead, spelledText, TextSpells, width-some, series-back, plain-codes, round-trip}
-
--- ---- a names line
-
-after-is : (p s u : Text) → afterLine p s ≡ value u → s ≡ p ++ u
-unfolding afterLine
-after-is [] s u e = value-is e
-after-is (a ∷ p) [] u e = absurd (never 12 u e)
-after-is (a ∷ p) (b ∷ s) u e = go (after-is p s u) (eqb a b) refl e
-  where
-    go : (afterLine p s ≡ value u → s ≡ p ++ u) → (t : Bool) → eqb a b ≡ t → cond t (afterLine p s) (refused 12) ≡ value u → b ∷ s ≡ a ∷ (p ++ u)
-    go h true same f = let is : a ≡ b = eqb-true a b same in let rest : s ≡ p ++ u = h f in cc
-    go h false other f = absurd (never 12 u f)
-
--- the text is the line of the heading that was found, and then what is left
-names-are : (line : Heading → Text) (known : List Heading) (s : Text) (x : Read Heading) → Each (λ h. namesLine h ≡ line h) known → readNames known s ≡ value x → s ≡ line (x .found) ++ x .rest
-unfolding readNames headingOr
-names-are line [] s x each e = absurd (never 12 x e)
-names-are line (h ∷ known) s x each e = go (names-are line known s x (each .1)) (afterLine (namesLine h) s) refl e
-  where
-    go : (readNames known s ≡ value x → s ≡ line (x .found) ++ x .rest) → (r : Result Text) → afterLine (namesLine h) s ≡ r → headingOr h r (readNames known s) ≡ value x → s ≡ line (x .found) ++ x .rest
-    go others (refused n) found f = others f
-    go others (value u) found f =
-        let is : _≡_ {A = Read Heading} (record { found = h; rest = u }) x = value-is f in
-        after-is (namesLine h) s u found ∙ ap (λ (l : Text). l ++ u) (each .0) ∙ ap (λ (y : Read Heading). line (y .found) ++ y .rest) is
 
 -- ---- line 2
 
@@ -78,15 +54,14 @@ record Starts (top : Method → List Text → Text) (s : Text) (t : Terms) (rest
   text : s ≡ top (t .method) fields ++ rest
   spells : FieldsSpell fields (t .exercised .0 ∷ t .draw ∷ [])
 
-terms-are : (s : Text) (x : Read Terms) → readTerms s ≡ value x → Starts spelledTerms s (x .found) (x .rest)
+terms-are : (s : Text) (x : Read Terms) → readTerms 2 s ≡ value x → Starts spelledTerms s (x .found) (x .rest)
 unfolding readTerms spelledTerms
 terms-are s x h =
     let m = stepped (fieldBy COMMA s) _ x h in
     let fs = stepped (readFields 2 (m .from .rest)) _ x (m .on) in
     let how = stepped (methodOf (m .from .found)) _ x (fs .on) in
     let ns = stepped (numbers (fs .from .found)) _ x (how .on) in
-    let t : Terms = record { method = how .from; exercised = record { 0 = getD (ns .from) 0 0 }; draw = getD (ns .from) 1 0 } in
-    let is : _≡_ {A = Read Terms} (record { found = t; rest = fs .from .rest }) x = value-is (ns .on) in
+    let is : _≡_ {A = Read Terms} (record { found = termsFrom (how .from) (ns .from); rest = fs .from .rest }) x = value-is (ns .on) in
     let line : Begins 2 (m .from .rest) (fs .from) = fields-are 2 (m .from .rest) (fs .from) (fs .step) in
     let so : FieldsSpell (fs .from .found) (ns .from) = numbers-are (fs .from .found) (ns .from) (ns .step) in
     let two : ns .from ≡ getD (ns .from) 0 0 ∷ getD (ns .from) 1 0 ∷ [] = sym (two-numbers (ns .from) (omega (arith, spell-facts (fs .from .found) (ns .from) so .long, line .long))) in
@@ -110,20 +85,21 @@ head-is : (s : Text) (x : Read Head) → readHead s ≡ value x → Starts (spel
 unfolding readHead spelledHead
 head-is s x h =
     let short = stepped (refuse (ltb MOST_BYTES (length s)) 11 s) _ x h in
-    let names = stepped (readNames line1 (short .from)) _ x (short .on) in
-    let t = stepped (readTerms (names .from .rest)) _ x (names .on) in
-    let lines = stepped (readNames line3 (t .from .rest)) _ x (t .on) in
-    let is : _≡_ {A = Read Head} (record { found = record { terms = t .from .found; form = formOf (lines .from .found); coded = coded (lines .from .found) }; rest = lines .from .rest }) x = value-is (lines .on) in
-    let terms : Starts spelledTerms (names .from .rest) (t .from .found) (t .from .rest) = terms-are (names .from .rest) (t .from) (t .step) in
-    let first : Text = namesLine Heading.Terms in
+    let names = stepped (readNames termsLine line1 (short .from)) _ x (short .on) in
+    let t = stepped (readTerms (termsNumbers (names .from .found)) (names .from .rest)) _ x (names .on) in
+    let lines = stepped (readNames positionsLine line3 (t .from .rest)) _ x (t .on) in
+    let columns = lines .from .found in
+    let is : _≡_ {A = Read Head} (record { found = record { terms = t .from .found; form = columns .form; coded = columns .coded }; rest = lines .from .rest }) x = value-is (lines .on) in
+    let two : readTerms 2 (names .from .rest) ≡ value (t .from) = subst (λ c. readTerms (termsNumbers c) (names .from .rest) ≡ value (t .from)) (only-terms (names .from .found)) (t .step) in
+    let terms : Starts spelledTerms (names .from .rest) (t .from .found) (t .from .rest) = terms-are (names .from .rest) (t .from) two in
+    let first : Text = termsLine TermsColumns.MethodExercisedDraw in
     let second : Text = spelledTerms (t .from .found .method) (terms .fields) in
-    let third : Text = namesLine (headingOf (formOf (lines .from .found)) (coded (lines .from .found))) in
     let whole : s ≡ short .from = not-refused (ltb MOST_BYTES (length s)) 11 s (short .from) (short .step) .1 in
+    let line1-is : s ≡ first ++ names .from .rest = subst (λ c. s ≡ termsLine c ++ names .from .rest) (only-terms (names .from .found)) (whole ∙ names-are termsLine line1 (short .from) (names .from) (names .step)) in
     subst (λ (y : Read Head). Starts (spelledHead (y .found .coded) (y .found .form)) s (y .found .terms) (y .rest)) is
     (record {
       fields = terms .fields;
-      text = three-parts s (names .from .rest) (t .from .rest) first second third (lines .from .rest) (whole ∙ names-are (λ _. first) line1 (short .from) (names .from) (refl, tt) (names .step)) (terms .text)
-          (names-are (λ h. namesLine (headingOf (formOf h) (coded h))) line3 (t .from .rest) (lines .from) (refl, (refl, (refl, (refl, tt)))) (lines .step));
+      text = three-parts s (names .from .rest) (t .from .rest) first second (positionsLine columns) (lines .from .rest) line1-is (terms .text) (names-are positionsLine line3 (t .from .rest) (lines .from) (lines .step));
       spells = terms .spells;
     })
 
@@ -238,12 +214,12 @@ number-shortest f n so =
     }
 
 line-shortest : (fs : List Text) (ns : List ℕ) → FieldsSpell fs ns → ShorterOrSame (writeRow ns) (fieldsLine fs)
-unfolding FieldsSpell fieldsLine writeRow writeNumber
+unfolding FieldsSpell fieldsLine writeParted writeNumber
 line-shortest [] [] so = same-text []
 line-shortest [] (n ∷ ns) so = absurd so
 line-shortest (f ∷ fs) [] so = absurd so
 line-shortest (f ∷ fs) (n ∷ ns) so =
-    let c : ℕ = endBefore (length ns) in
+    let c : ℕ = endBefore COMMA NEWLINE (length ns) in
     let here : ShorterOrSame (decimal n ++ (c ∷ [])) (f ++ (c ∷ [])) = both-parts (decimal n) f (c ∷ []) (c ∷ []) (number-shortest f n (so .0)) (same-text (c ∷ [])) in
     let whole : ShorterOrSame ((decimal n ++ (c ∷ [])) ++ writeRow ns) ((f ++ (c ∷ [])) ++ fieldsLine fs) = both-parts (decimal n ++ (c ∷ [])) (f ++ (c ∷ [])) (writeRow ns) (fieldsLine fs) here (line-shortest fs ns (so .1)) in
     rw (spell-facts fs ns (so .1) .long) (subst (ShorterOrSame ((decimal n ++ (c ∷ [])) ++ writeRow ns)) (append-assoc f (c ∷ []) (fieldsLine fs)) whole)
@@ -259,8 +235,8 @@ lines-shortest k (fs ∷ fss) (r ∷ rows) so = both-parts (writeRow r) (fieldsL
 spelled-shortest : (c : Bool) (t : Listing) (terms : List Text) (lines : List (List Text)) → TextSpells c t terms lines → ShorterOrSame (textWith c t) (spelledText c (t .form) (t .terms .method) terms lines)
 unfolding textWith writeHead writeTerms spelledText spelledHead spelledTerms
 spelled-shortest c t terms lines so =
-    let first : Text = namesLine Heading.Terms in
-    let third : Text = namesLine (headingOf (t .form) c) in
+    let first : Text = termsLine TermsColumns.MethodExercisedDraw in
+    let third : Text = positionsLine (columnsIn (t .form) c) in
     let front : Text = letter (t .terms .method) ∷ COMMA ∷ [] in
     let row : Text = writeRow (t .terms .exercised .0 ∷ t .terms .draw ∷ []) in
     let line : Text = fieldsLine terms in
@@ -278,19 +254,13 @@ lines-mono f g (suc n) le = omega (arith, rw (add-one n) at (lines-next-length f
 
 -- the lines of columns with one more before them are no shorter
 column-more : (d c : List ℕ) (cs : List (List ℕ)) → length d ≡ length c → length (writeRows (rowsOf (c ∷ cs))) ≤ length (writeRows (rowsOf (d ∷ c ∷ cs)))
-unfolding rowsOf writeRow
+unfolding rowsOf writeParted
 column-more d c cs e =
-    rw e (lines-mono (rowOf (c ∷ cs)) (rowOf (d ∷ c ∷ cs)) (length c) (λ i. let row = rowOf (c ∷ cs) i in omega (arith, length-append (writeNumber (getD d i 0) (endBefore (length row))) (writeRow row))))
-
--- the names line with a code is longer
-code-longer : (f : Form) → length (namesLine (headingOf f false)) < length (namesLine (headingOf f true))
-unfolding namesLine ascii
-code-longer Form.Shorts = omega arith
-code-longer Form.LastNumbers = omega arith
+    rw e (lines-mono (rowOf (c ∷ cs)) (rowOf (d ∷ c ∷ cs)) (length c) (λ i. let row = rowOf (c ∷ cs) i in omega (arith, length-append (writeNumber (getD d i 0) (endBefore COMMA NEWLINE (length row))) (writeRow row))))
 
 -- the code column makes a text longer
 codes-longer : (t : Listing) → Columns (t .codes) (t .accounts) (t .numbers) → length (textWith false t) < length (textWith true t)
-unfolding textWith namesLine ascii
+unfolding textWith
 codes-longer t l =
     let lines : Bool → Text = λ c. writeRows (rowsOf (columns c t)) in
     omega (arith, length-append (writeHead true (t .form) (t .terms)) (lines true), length-append (writeHead false (t .form) (t .terms)) (lines false), length-head true (t .form) (t .terms), length-head false (t .form) (t .terms), code-longer (t .form), column-more (t .codes) (t .accounts) (t .numbers ∷ []) (l .codes))

@@ -1,10 +1,12 @@
 -- The calls: what each hands back, and what its outputs then hold.
 use Prim.Native.Nat.{ℕ}
+use mathlib.Core.Path.{_≡_}
 use mathlib.Core.Bool.{Bool, true, not, _&&_, _||_}
 use mathlib.Core.List.{List, [], _∷_, _++_}
 use lib.Dec.{eqb, ltb}
 use lib.ListN.{length}
-use Rattle.series.specs.Results.{Result, value, _>>=_, refuse}
+use Rattle.series.specs.Results.{Result, value, _>>=_, refuse, after}
+use Rattle.series.specs.Outputs.{onto, Lent}
 use Rattle.series.specs.declared.Terms.{Terms}
 use Rattle.forms.specs.Forms.{Listing, changed}
 use Rattle.forms.specs.declared.Form.{Form}
@@ -29,6 +31,21 @@ unfoldable pub handed : Result Listing → Result Handed
 handed r = do
   t ← r
   value (record { form = t .form; terms = t .terms; positions = length (t .accounts) })
+
+-- the lists that a reading r came to, in three lent lists: its positions and what stood past them, or all that stood there
+pub record ListsRead (r : Result Listing) (codes′ accounts′ numbers′ : Lent (List ℕ)) : Type 0 where
+  pub codes : codes′ .new ≡ after r (λ l. onto (l .codes) (codes′ .old)) (codes′ .old)
+  pub accounts : accounts′ .new ≡ after r (λ l. onto (l .accounts) (accounts′ .old)) (accounts′ .old)
+  pub numbers : numbers′ .new ≡ after r (λ l. onto (l .numbers) (numbers′ .old)) (numbers′ .old)
+
+-- reading a text into three lent lists
+abbrev pub readLent : Text → Lent (List ℕ) → Lent (List ℕ) → Lent (List ℕ) → Result Listing
+readLent s codes accounts numbers = readInto s (length (codes .old)) (length (accounts .old)) (length (numbers .old))
+
+-- the call that reads the text s answers a and writes to three lent lists, both as defined
+pub record ReadingCall (s : Text) (a : Result Handed) (codes accounts numbers : Lent (List ℕ)) : Type 0 where
+  pub answered : a ≡ handed (readLent s codes accounts numbers)
+  pub written : ListsRead (readLent s codes accounts numbers) codes accounts numbers
 
 -- the columns have n numbers each
 unfoldable pub evenly : ℕ → List (List ℕ) → Bool
@@ -89,3 +106,8 @@ unfoldable pub lengthOf : Result Text → Result ℕ
 lengthOf r = do
   s ← r
   value (length s)
+
+-- a call that writes the text w, or meets its refusal, answers a, and its output goes from old to new, both as defined
+pub record WritingCall (w : Result Text) (a : Result ℕ) (old new : Text) : Type 0 where
+  pub answered : a ≡ lengthOf w
+  pub written : new ≡ after w (λ s. onto s old) old

@@ -43,16 +43,16 @@ fieldBy c s = do
   rest ← past c (drop (length (field s)) s)
   value (record { found = field s; rest = rest })
 
--- the byte that ends a field of a line, after which k fields follow: byte 10 ends the last, a comma each other
-unfoldable pub endBefore : ℕ → ℕ
-endBefore zero = NEWLINE
-endBefore (suc k) = COMMA
+-- the byte that ends a field, after which k fields follow: `end` ends the last, `part` each other
+unfoldable pub endBefore : ℕ → ℕ → ℕ → ℕ
+endBefore part end zero = end
+endBefore part end (suc k) = part
 
--- a line of k fields, else 13
+-- a line of k fields, parted by commas and ended by byte 10, else 13
 unfoldable pub readFields : ℕ → Text → Result (Read (List Text))
 readFields zero s = value (record { found = []; rest = s })
 readFields (suc k) s = do
-  f ← fieldBy (endBefore k) s
+  f ← fieldBy (endBefore COMMA NEWLINE k) s
   fs ← readFields k (f .rest)
   value (record { found = f .found ∷ fs .found; rest = fs .rest })
 

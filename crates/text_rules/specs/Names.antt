@@ -1,51 +1,60 @@
--- The names lines: what each stands for.
+-- The names lines: line 1, and line 3, which is put together from the names of its columns.
+use Prim.Native.Nat.{ℕ}
 use mathlib.Core.Bool.{Bool, true, false, cond}
-use mathlib.Core.List.{List, [], _∷_}
+use mathlib.Core.List.{List, [], _∷_, _++_}
 use lib.Dec.{eqb}
 use Rattle.series.specs.Ascii.{ascii}
 use Rattle.series.specs.Results.{Result, refused, value}
 use Rattle.forms.specs.declared.Form.{Form}
 use Rattle.text_rules.specs.Fields.{Text, Read}
-use Rattle.text_rules.specs.declared.Heading.{Heading}
+use Rattle.text_rules.specs.declared.TermsColumns.{TermsColumns}
+use Rattle.text_rules.specs.declared.PositionColumns.{PositionColumns}
 
--- the line of each heading
-unfoldable pub namesLine : Heading → Text
-namesLine Heading.Terms = ascii "method,exercised,draw\n"
-namesLine Heading.Positions = ascii "account,short\n"
-namesLine Heading.CodedPositions = ascii "code,account,short\n"
-namesLine Heading.LastNumbers = ascii "account,last\n"
-namesLine Heading.CodedLastNumbers = ascii "code,account,last\n"
+-- line 1
+unfoldable pub termsLine : TermsColumns → Text
+termsLine TermsColumns.MethodExercisedDraw = ascii "method,exercised,draw\n"
 
--- the headings that line 1 may have
-abbrev pub line1 : List Heading
-line1 = Heading.Terms ∷ []
+-- how many numbers line 2 has after the method
+abbrev pub termsNumbers : TermsColumns → ℕ
+termsNumbers TermsColumns.MethodExercisedDraw = 2
 
--- the headings that line 3 may have
-abbrev pub line3 : List Heading
-line3 = Heading.Positions ∷ Heading.CodedPositions ∷ Heading.LastNumbers ∷ Heading.CodedLastNumbers ∷ []
+-- the name of the code column, where there is one
+unfoldable pub codeName : Bool → Text
+codeName true = ascii "code,"
+codeName false = []
 
--- the heading of position lines in a form, with a code or without one
-abbrev pub headingOf : Form → Bool → Heading
-headingOf Form.Shorts false = Heading.Positions
-headingOf Form.Shorts true = Heading.CodedPositions
-headingOf Form.LastNumbers false = Heading.LastNumbers
-headingOf Form.LastNumbers true = Heading.CodedLastNumbers
+-- the name of the account column
+unfoldable pub accountName : Text
+accountName = ascii "account,"
 
--- the form of the position lines that the heading stands for
-abbrev pub formOf : Heading → Form
-formOf Heading.Terms = Form.Shorts
-formOf Heading.Positions = Form.Shorts
-formOf Heading.CodedPositions = Form.Shorts
-formOf Heading.LastNumbers = Form.LastNumbers
-formOf Heading.CodedLastNumbers = Form.LastNumbers
+-- the name of the last column: the form's word
+unfoldable pub formName : Form → Text
+formName Form.Shorts = ascii "short\n"
+formName Form.LastNumbers = ascii "last\n"
 
--- the heading stands for position lines with a code
-abbrev pub coded : Heading → Bool
-coded Heading.Terms = false
-coded Heading.Positions = false
-coded Heading.CodedPositions = true
-coded Heading.LastNumbers = false
-coded Heading.CodedLastNumbers = true
+-- line 3 from the account column on: `account,` and the form's word
+unfoldable pub accountLine : PositionColumns → Text
+accountLine c = accountName ++ formName (c .form)
+
+-- line 3: `code,` or nothing before it
+unfoldable pub positionsLine : PositionColumns → Text
+positionsLine c = codeName (c .coded) ++ accountLine c
+
+-- what line 1 may name
+abbrev pub line1 : List TermsColumns
+line1 = TermsColumns.MethodExercisedDraw ∷ []
+
+-- the columns of position lines in a form, with a code or without one
+abbrev pub columnsIn : Form → Bool → PositionColumns
+columnsIn f c = record { form = f; coded = c }
+
+-- those of either form
+abbrev pub inForms : Bool → List PositionColumns
+inForms c = columnsIn Form.Shorts c ∷ columnsIn Form.LastNumbers c ∷ []
+
+-- what line 3 may name
+abbrev pub line3 : List PositionColumns
+line3 = columnsIn Form.Shorts false ∷ columnsIn Form.Shorts true ∷ columnsIn Form.LastNumbers false ∷ columnsIn Form.LastNumbers true ∷ []
 
 -- the text after the line p, else 12
 unfoldable pub afterLine : Text → Text → Result Text
@@ -53,12 +62,12 @@ afterLine [] s = value s
 afterLine (a ∷ p) [] = refused 12
 afterLine (a ∷ p) (b ∷ s) = cond (eqb a b) (afterLine p s) (refused 12)
 
--- the heading h and the text after its line, else what the other headings give
-unfoldable pub headingOr : Heading → Result Text → Result (Read Heading) → Result (Read Heading)
-headingOr h (value rest) other = value (record { found = h; rest = rest })
-headingOr h (refused n) other = other
+-- the columns c and the text after their line, else what the other lines give
+unfoldable pub namesOr : {A : Type 0} → A → Result Text → Result (Read A) → Result (Read A)
+namesOr c (value rest) other = value (record { found = c; rest = rest })
+namesOr c (refused n) other = other
 
--- the first of the known headings whose line the text begins with, else 12
-unfoldable pub readNames : List Heading → Text → Result (Read Heading)
-readNames [] s = refused 12
-readNames (h ∷ known) s = headingOr h (afterLine (namesLine h) s) (readNames known s)
+-- the first of the known columns whose line the text begins with, else 12
+unfoldable pub readNames : {A : Type 0} → (A → Text) → List A → Text → Result (Read A)
+readNames line [] s = refused 12
+readNames line (c ∷ known) s = namesOr c (afterLine (line c) s) (readNames line known s)

@@ -5,7 +5,7 @@ use lib.ListN.{length, getD}
 use Rattle.series.specs.Results.{Result, refused, value, _>>=_}
 use Rattle.series.specs.Sums.{listed}
 use Rattle.text_rules.specs.Numbers.{number}
-use Rattle.text_rules.specs.Fields.{Text, Read, endBefore, readFields, writeNumber}
+use Rattle.text_rules.specs.Fields.{Text, COMMA, NEWLINE, Read, endBefore, readFields, writeNumber}
 
 -- the fields as numbers, else 13
 unfoldable pub numbers : List Text → Result (List ℕ)
@@ -32,10 +32,14 @@ readRows (suc most) k (b ∷ s) = do
   rs ← readRows most k (r .rest)
   value (r .found ∷ rs)
 
--- a line of numbers
-unfoldable pub writeRow : List ℕ → Text
-writeRow [] = []
-writeRow (n ∷ ns) = writeNumber n (endBefore (length ns)) ++ writeRow ns
+-- numbers as fields, which the byte `part` parts and the byte `end` ends
+unfoldable pub writeParted : ℕ → ℕ → List ℕ → Text
+writeParted part end [] = []
+writeParted part end (n ∷ ns) = writeNumber n (endBefore part end (length ns)) ++ writeParted part end ns
+
+-- a line of numbers: parted by commas, ended by byte 10
+abbrev pub writeRow : List ℕ → Text
+writeRow ns = writeParted COMMA NEWLINE ns
 
 -- lines of numbers
 unfoldable pub writeRows : List (List ℕ) → Text

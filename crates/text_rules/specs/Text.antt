@@ -5,14 +5,16 @@ use mathlib.Core.Bool.{Bool, true, false, not, _&&_}
 use lib.Dec.{eqb, ltb}
 use lib.ListN.{length, getD}
 use Rattle.series.specs.Results.{Result, value, _>>=_, refuse}
+use Rattle.series.specs.Series.{termsOf}
+use Rattle.series.specs.declared.Method.{Method}
 use Rattle.series.specs.declared.Terms.{Terms}
 use Rattle.forms.specs.Forms.{Listing}
 use Rattle.forms.specs.declared.Form.{Form}
 use Rattle.text_rules.specs.Fields.{Text, COMMA, Read, fieldBy, readFields}
 use Rattle.text_rules.specs.Rows.{numbers, readRows, writeRow, writeRows, rowsOf, column}
-use Rattle.text_rules.specs.Names.{line1, line3, namesLine, headingOf, formOf, coded, readNames}
+use Rattle.text_rules.specs.Names.{line1, line3, termsLine, termsNumbers, columnsIn, positionsLine, readNames}
 use Rattle.text_rules.specs.Letters.{letter, methodOf}
-use Rattle.text_rules.specs.declared.Heading.{Heading}
+use Rattle.text_rules.specs.declared.TermsColumns.{TermsColumns}
 
 -- the most bytes that a text has
 abbrev pub MOST_BYTES : ℕ
@@ -22,14 +24,18 @@ MOST_BYTES = 32768
 abbrev pub MOST_LINES : ℕ
 MOST_LINES = 1024
 
--- line 2: 13 not three fields and byte 10; then 14 method unknown; then 13 a number malformed
-unfoldable pub readTerms : Text → Result (Read Terms)
-readTerms s = do
+-- the terms of a method and of the numbers after it in line 2: S and the draw
+abbrev pub termsFrom : Method → List ℕ → Terms
+termsFrom how ns = termsOf how (getD ns 0 0) (getD ns 1 0)
+
+-- line 2 with k numbers after the method: 13 not so many fields and byte 10; then 14 method unknown; then 13 a number malformed
+unfoldable pub readTerms : ℕ → Text → Result (Read Terms)
+readTerms k s = do
   m ← fieldBy COMMA s
-  fs ← readFields 2 (m .rest)
+  fs ← readFields k (m .rest)
   how ← methodOf (m .found)
   ns ← numbers (fs .found)
-  value (record { found = record { method = how; exercised = record { 0 = getD ns 0 0 }; draw = getD ns 1 0 }; rest = fs .rest })
+  value (record { found = termsFrom how ns; rest = fs .rest })
 
 -- what lines 1 to 3 hold: the values of line 2, the form of the position lines, and whether each begins with a code
 pub record Head : Type 0 where
@@ -41,10 +47,10 @@ pub record Head : Type 0 where
 unfoldable pub readHead : Text → Result (Read Head)
 readHead s = do
   s ← refuse (ltb MOST_BYTES (length s)) 11 s
-  names ← readNames line1 s
-  t ← readTerms (names .rest)
-  columns ← readNames line3 (t .rest)
-  value (record { found = record { terms = t .found; form = formOf (columns .found); coded = coded (columns .found) }; rest = columns .rest })
+  names ← readNames termsLine line1 s
+  t ← readTerms (termsNumbers (names .found)) (names .rest)
+  columns ← readNames positionsLine line3 (t .rest)
+  value (record { found = record { terms = t .found; form = columns .found .form; coded = columns .found .coded }; rest = columns .rest })
 
 -- how many numbers a position line has: code, account and its shorts or last number, or the latter two
 abbrev pub lineWidth : Bool → ℕ
@@ -74,7 +80,7 @@ writeTerms t = letter (t .method) ∷ COMMA ∷ writeRow (t .exercised .0 ∷ t 
 
 -- lines 1 to 3, for position lines in a form, with a code or without one
 unfoldable pub writeHead : Bool → Form → Terms → Text
-writeHead c f t = namesLine Heading.Terms ++ (writeTerms t ++ namesLine (headingOf f c))
+writeHead c f t = termsLine TermsColumns.MethodExercisedDraw ++ (writeTerms t ++ positionsLine (columnsIn f c))
 
 -- the columns of the position lines, with the codes or without them
 abbrev pub columnsBy : Bool → List ℕ → List ℕ → List ℕ → List (List ℕ)

@@ -1,10 +1,13 @@
-// The text of a series as definitions (specs/) and laws about them (proofs/). Of the code they name one type.
+// The text of a series as definitions (specs/) and laws about them (proofs/). Of the code they name what the names lines stand for.
+use forms::Form;
 
-// What a names line stands for: the values of line 2, or the columns of the position lines, with shorts or with last numbers, without a code or with one.
-pub enum Heading {
-    Terms,
-    Positions,
-    CodedPositions,
-    LastNumbers,
-    CodedLastNumbers,
+// The columns that line 1 names, whose values stand in line 2.
+pub enum TermsColumns {
+    MethodExercisedDraw,
+}
+
+// The columns that line 3 names: shorts or last numbers, after a code or without one.
+pub struct PositionColumns {
+    pub form: Form,
+    pub coded: bool,
 }

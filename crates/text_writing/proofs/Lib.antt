@@ -1,3 +1,4 @@
--- Laws that the proofs of src/ cite.
+-- Laws that the proofs of src/ cite, and claims.
 mod PutLaws
 mod WriteLaws
+pub mod Claims

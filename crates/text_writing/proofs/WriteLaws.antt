@@ -9,25 +9,25 @@ use borrow.Author.Tests.{lt-ltb, le-ltb, ltb-false, eq-eqb}
 use lib.ListN.{length, getD, take, drop, set, length-append, length-drop, length-map, length-set}
 use lib.Seq.{take-all}
 use lib.Dec.{ltb}
-use Rattle.series.specs.Results.{Result, refused, value, _>>=_, refuse, after}
+use Rattle.series.specs.Results.{Result, refused, value, _>>=_, refuse}
 use Rattle.forms.specs.Forms.{Listing}
 use Rattle.forms.specs.declared.Form.{Form}
-use Rattle.series.specs.Outputs.{onto}
 use Rattle.series.specs.Sums.{listed}
 use Rattle.series.specs.declared.Terms.{Terms}
 use Rattle.text_rules.specs.Fields.{Text, COMMA}
 use Rattle.text_rules.specs.Rows.{writeRow, writeRows, rowOf, rowsOf}
-use Rattle.text_rules.specs.Names.{namesLine, headingOf}
+use Rattle.text_rules.specs.Names.{termsLine, columnsIn, positionsLine}
 use Rattle.text_rules.specs.Letters.{letter}
 use Rattle.text_rules.specs.Text.{MOST_BYTES, MOST_LINES, writeTerms, writeHead, columnsBy, columns, writesCodes}
-use Rattle.text_rules.specs.declared.Heading.{Heading}
+use Rattle.text_rules.specs.declared.TermsColumns.{TermsColumns}
 use Rattle.text_rules.specs.Lists.{Plain}
-use Rattle.text_rules.specs.Calls.{evenly, lineCount, headAndLines, linesInto, writeInto, lengthOf}
+use Rattle.text_rules.specs.Calls.{evenly, lineCount, headAndLines, linesInto, writeInto, lengthOf, WritingCall}
 use Rattle.text_writing.specs.Parts.{Put, written, leftOut, Unwritten, FiveColumns}
 use Rattle.text_writing.specs.Tables.{tablesInto, bothWithin}
 use Rattle.series.proofs.ResultLaws.{never, value-is, Stepped, stepped, not-refused}
 use Rattle.text_rules.proofs.RowLaws.{Each}
 use Rattle.text_rules.proofs.LengthLaws.{linesOf, lines-all, even-each, LinesKnown, lines-known}
+use Rattle.text_rules.proofs.WritingLaws.{refused-writes}
 use Rattle.text_writing.proofs.PutLaws.{placed-onto, put-append, put-byte}
 
 -- line 2: the letter and a comma, and then the row
@@ -43,12 +43,12 @@ put-terms t old at new n fits p =
     put-append (l ∷ COMMA ∷ []) (writeRow (t .exercised .0 ∷ t .draw ∷ [])) old at (set (set old at l) (at + 1) COMMA) new (at + 2) n (omega arith) both p
 
 -- the three lines are put one after the other
-pub put-head : (c : Bool) (f : Form) (t : Terms) (old s1 s2 new : List ℕ) (i1 i2 n : ℕ) → length (writeHead c f t) ≤ length old → length s1 ≡ length old → Put (namesLine Heading.Terms) old 0 s1 i1
-    → Put (writeRow (t .exercised .0 ∷ t .draw ∷ [])) (set (set s1 i1 (letter (t .method))) (i1 + 1) COMMA) (i1 + 2) s2 i2 → Put (namesLine (headingOf f c)) s2 i2 new n → Put (writeHead c f t) old 0 new n
+pub put-head : (c : Bool) (f : Form) (t : Terms) (old s1 s2 new : List ℕ) (i1 i2 n : ℕ) → length (writeHead c f t) ≤ length old → length s1 ≡ length old → Put (termsLine TermsColumns.MethodExercisedDraw) old 0 s1 i1
+    → Put (writeRow (t .exercised .0 ∷ t .draw ∷ [])) (set (set s1 i1 (letter (t .method))) (i1 + 1) COMMA) (i1 + 2) s2 i2 → Put (positionsLine (columnsIn f c)) s2 i2 new n → Put (writeHead c f t) old 0 new n
 unfolding writeHead
 put-head c f t old s1 s2 new i1 i2 n room long p1 p2 p3 =
-    let names : Text = namesLine Heading.Terms in
-    let columns : Text = namesLine (headingOf f c) in
+    let names : Text = termsLine TermsColumns.MethodExercisedDraw in
+    let columns : Text = positionsLine (columnsIn f c) in
     let e1 = length-append names (writeTerms t ++ columns) in
     let e2 = length-append (writeTerms t) columns in
     let e3 = length-append names (writeTerms t) in
@@ -135,10 +135,7 @@ series-unwritten false codes accounts plain = record { few = omega arith; first 
 pub none-unwritten : (a b c d : List ℕ) → Unwritten 0 a b c d
 none-unwritten a b c d = record { few = omega arith; first = λ lt. absurd (omega arith); second = λ lt. absurd (omega arith); third = λ lt. absurd (omega arith) }
 
--- ---- what writing hands back, and the output that it leaves of old
-
-abbrev pub Leaves : Result Text → Text → Result ℕ → Text → Type 0
-Leaves w old r new = (r ≡ lengthOf w) × (new ≡ after w (λ s. onto s old) old)
+-- ---- what writing hands back, and the output that it leaves
 
 -- a refusal that is handed back
 refused-is : (w : Result Text) (n : ℕ) → refused n ≡ lengthOf w → w ≡ refused n
@@ -146,13 +143,9 @@ unfolding lengthOf
 refused-is (refused m) n e = let is : m ≡ n = cc in ap refused is
 refused-is (value s) n e = absurd (never n (length s) e)
 
-leaves-kept : (w : Result Text) (old : Text) (n : ℕ) → w ≡ refused n → Leaves w old (refused n) old
+put-writes : (w : Result Text) (old s new : Text) (n : ℕ) → w ≡ value s → Put s old 0 new n → WritingCall w (value n) old new
 unfolding lengthOf
-leaves-kept w old n e = (rw e, rw e)
-
-leaves-put : (w : Result Text) (old s new : Text) (n : ℕ) → w ≡ value s → Put s old 0 new n → Leaves w old (value n) new
-unfolding lengthOf
-leaves-put w old s new n e p = (rw e (ap value (p .after ∙ zero-add (length s))), rw e (p .text ∙ placed-onto s old))
+put-writes w old s new n e p = rw e (record { answered = ap value (p .after ∙ zero-add (length s)); written = p .text ∙ placed-onto s old })
 
 -- ---- a head and lines, measured
 
@@ -206,33 +199,33 @@ module _ (head : Text) (k : ℕ) (a b c d e : List ℕ) (left : Unwritten k a b 
 -- ---- what the calls leave
 
 -- a refusal of the columns
-pub leaves-refused : (head : Text) (cs : List (List ℕ)) (f : Text → Result Text) (old : Text) (n : ℕ) → refused n ≡ lengthOf (headAndLines head cs) → Leaves (headAndLines head cs >>= f) old (refused n) old
-leaves-refused head cs f old n e = leaves-kept (headAndLines head cs >>= f) old n (rw (refused-is (headAndLines head cs) n e))
+pub columns-refused : (head : Text) (cs : List (List ℕ)) (f : Text → Result Text) (old : Text) (n : ℕ) → refused n ≡ lengthOf (headAndLines head cs) → WritingCall (headAndLines head cs >>= f) (refused n) old old
+columns-refused head cs f old n e = refused-writes (headAndLines head cs >>= f) old n (rw (refused-is (headAndLines head cs) n e))
 
 module _ (head : Text) (cs : List (List ℕ)) (n : ℕ) (m : Measured head cs n) (old : Text) where
   -- the output is too short
-  pub lines-short : length old < n → Leaves (linesInto head cs (length old)) old (refused 4) old
+  pub lines-short : length old < n → WritingCall (linesInto head cs (length old)) (refused 4) old old
   unfolding linesInto
-  lines-short over = leaves-kept _ old 4 (rw (m .is, ← m .bytes, lt-ltb (length old) n over))
+  lines-short over = refused-writes _ old 4 (rw (m .is, ← m .bytes, lt-ltb (length old) n over))
 
-  pub lines-put : n ≤ length old → (new : Text) (k : ℕ) → Put (head ++ writeRows (rowsOf cs)) old 0 new k → Leaves (linesInto head cs (length old)) old (value k) new
+  pub lines-put : n ≤ length old → (new : Text) (k : ℕ) → Put (head ++ writeRows (rowsOf cs)) old 0 new k → WritingCall (linesInto head cs (length old)) (value k) old new
   unfolding linesInto
-  lines-put room new k p = leaves-put _ old (head ++ writeRows (rowsOf cs)) new k (rw (m .is, ← m .bytes, le-ltb (length old) n room)) p
+  lines-put room new k p = put-writes _ old (head ++ writeRows (rowsOf cs)) new k (rw (m .is, ← m .bytes, le-ltb (length old) n room)) p
 
 module _ (t : Listing) (n : ℕ) (m : Measured (writeHead (writesCodes t) (t .form) (t .terms)) (columns (writesCodes t) t) n) (old : Text) where
   -- the text would pass 32,768 bytes
-  pub text-long : MOST_BYTES < n → Leaves (writeInto t (length old)) old (refused 11) old
+  pub text-long : MOST_BYTES < n → WritingCall (writeInto t (length old)) (refused 11) old old
   unfolding writeInto
-  text-long over = leaves-kept _ old 11 (rw (m .is, ← m .bytes, lt-ltb MOST_BYTES n over))
+  text-long over = refused-writes _ old 11 (rw (m .is, ← m .bytes, lt-ltb MOST_BYTES n over))
 
   module _ (fits : n ≤ MOST_BYTES) where
-    pub text-short : length old < n → Leaves (writeInto t (length old)) old (refused 4) old
+    pub text-short : length old < n → WritingCall (writeInto t (length old)) (refused 4) old old
     unfolding writeInto
-    text-short over = leaves-kept _ old 4 (rw (m .is, ← m .bytes, le-ltb MOST_BYTES n fits, ← m .bytes, lt-ltb (length old) n over))
+    text-short over = refused-writes _ old 4 (rw (m .is, ← m .bytes, le-ltb MOST_BYTES n fits, ← m .bytes, lt-ltb (length old) n over))
 
-    pub text-put : n ≤ length old → (new : Text) (k : ℕ) → Put (writeHead (writesCodes t) (t .form) (t .terms) ++ writeRows (rowsOf (columns (writesCodes t) t))) old 0 new k → Leaves (writeInto t (length old)) old (value k) new
+    pub text-put : n ≤ length old → (new : Text) (k : ℕ) → Put (writeHead (writesCodes t) (t .form) (t .terms) ++ writeRows (rowsOf (columns (writesCodes t) t))) old 0 new k → WritingCall (writeInto t (length old)) (value k) old new
     unfolding writeInto
-    text-put room new k p = leaves-put _ old _ new k (rw (m .is, ← m .bytes, le-ltb MOST_BYTES n fits, ← m .bytes, le-ltb (length old) n room)) p
+    text-put room new k p = put-writes _ old _ new k (rw (m .is, ← m .bytes, le-ltb MOST_BYTES n fits, ← m .bytes, le-ltb (length old) n room)) p
 
 -- ---- two texts, one after the other
 
@@ -294,15 +287,15 @@ module _ (head : Text) (cs : List (List ℕ)) where
   headed-is x e = lines-known head cs x e .text
 
   module _ (old : Text) (n : ℕ) where
-    pub table-refused : refused n ≡ bothWithin (lengthOf (headAndLines head cs)) (value 0) (length old) → Leaves (linesInto head cs (length old)) old (refused n) old
+    pub table-refused : refused n ≡ bothWithin (lengthOf (headAndLines head cs)) (value 0) (length old) → WritingCall (linesInto head cs (length old)) (refused n) old old
     unfolding lengthOf
-    table-refused e = leaves-kept _ old n (lines-alone head cs (length old) ∙ both-refused (headAndLines head cs) (value []) (length old) n e)
+    table-refused e = refused-writes _ old n (lines-alone head cs (length old) ∙ both-refused (headAndLines head cs) (value []) (length old) n e)
 
     pub table-fits : value n ≡ bothWithin (lengthOf (headAndLines head cs)) (value 0) (length old) → Fitting (headAndLines head cs) (value []) headed [] (length old)
     unfolding lengthOf
     table-fits e = both-fitting (headAndLines head cs) (value []) (length old) headed [] headed-is (λ x is. value-is is) n e
 
-  pub table-put : (old new : Text) (k : ℕ) → Fitting (headAndLines head cs) (value []) headed [] (length old) → Put headed old 0 new k → Leaves (linesInto head cs (length old)) old (value k) new
+  pub table-put : (old new : Text) (k : ℕ) → Fitting (headAndLines head cs) (value []) headed [] (length old) → Put headed old 0 new k → WritingCall (linesInto head cs (length old)) (value k) old new
   table-put old new k fit p = lines-put head cs (length headed) (record { is = fit .first; bytes = refl }) old (omega (arith, fit .fits)) new k p
 
 module _ (head : Text) (cs : List (List ℕ)) (head2 : Text) (cs2 : List (List ℕ)) (old : Text) where
@@ -310,19 +303,19 @@ module _ (head : Text) (cs : List (List ℕ)) (head2 : Text) (cs2 : List (List �
   TablesFit = Fitting (headAndLines head cs) (headAndLines head2 cs2) (headed head cs) (headed head2 cs2) (length old)
 
   module _ (n : ℕ) where
-    pub tables-refused : refused n ≡ bothWithin (lengthOf (headAndLines head cs)) (lengthOf (headAndLines head2 cs2)) (length old) → Leaves (tablesInto head cs head2 cs2 (length old)) old (refused n) old
+    pub tables-refused : refused n ≡ bothWithin (lengthOf (headAndLines head cs)) (lengthOf (headAndLines head2 cs2)) (length old) → WritingCall (tablesInto head cs head2 cs2 (length old)) (refused n) old old
     unfolding tablesInto
-    tables-refused e = leaves-kept _ old n (both-refused (headAndLines head cs) (headAndLines head2 cs2) (length old) n e)
+    tables-refused e = refused-writes _ old n (both-refused (headAndLines head cs) (headAndLines head2 cs2) (length old) n e)
 
     pub tables-fit : value n ≡ bothWithin (lengthOf (headAndLines head cs)) (lengthOf (headAndLines head2 cs2)) (length old) → TablesFit
     tables-fit e = both-fitting (headAndLines head cs) (headAndLines head2 cs2) (length old) (headed head cs) (headed head2 cs2) (headed-is head cs) (headed-is head2 cs2) n e
 
-  pub tables-put : (mid new : Text) (i k : ℕ) → TablesFit → Put (headed head cs) old 0 mid i → Put (headed head2 cs2) mid i new k → Leaves (tablesInto head cs head2 cs2 (length old)) old (value k) new
+  pub tables-put : (mid new : Text) (i k : ℕ) → TablesFit → Put (headed head cs) old 0 mid i → Put (headed head2 cs2) mid i new k → WritingCall (tablesInto head cs head2 cs2 (length old)) (value k) old new
   unfolding tablesInto
   tables-put mid new i k fit p1 p2 =
       let both : Text = headed head cs ++ headed head2 cs2 in
       let room : length both ≤ length old = omega (arith, fit .fits, length-append (headed head cs) (headed head2 cs2)) in
-      leaves-put _ old both new k (rw (fit .first, fit .second, le-ltb (length old) (length both) room)) (put-append (headed head cs) (headed head2 cs2) old 0 mid new i k (omega (arith, fit .fits)) p1 p2)
+      put-writes _ old both new k (rw (fit .first, fit .second, le-ltb (length old) (length both) room)) (put-append (headed head cs) (headed head2 cs2) old 0 mid new i k (omega (arith, fit .fits)) p1 p2)
 
 -- ---- a note
 

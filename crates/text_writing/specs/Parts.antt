@@ -1,9 +1,10 @@
 -- What the functions that put bytes promise, and what they ask of columns.
-use Prim.Native.Nat.{ℕ, _+_, _≤_, _<_}
+use Prim.Native.Nat.{ℕ, _+_, _*_, _≤_, _<_}
 use mathlib.Core.Path.{_≡_}
 use mathlib.Core.Bool.{Bool, true, false}
 use mathlib.Core.List.{List, [], _∷_, _++_}
 use lib.ListN.{length, take, drop}
+use Rattle.text_rules.specs.Rows.{writeParted}
 use Rattle.text_rules.specs.Text.{MOST_LINES}
 
 -- the list old with vs in the place of what stood from index at on
@@ -14,6 +15,11 @@ placed vs at old = take at old ++ vs ++ drop (at + length vs) old
 pub record Put (vs old : List ℕ) (at : ℕ) (new : List ℕ) (next : ℕ) : Type 0 where
   pub text : new ≡ placed vs at old
   pub after : next ≡ at + length vs
+
+-- the length r of a row, whatever the bytes that part and end it: at most 11 for each number
+pub record RowLength (row : List ℕ) (r : ℕ) : Type 0 where
+  pub long : (part end : ℕ) → r ≡ length (writeParted part end row)
+  pub few : r ≤ 11 * length row
 
 -- of five columns those that are written: all but the first k
 abbrev pub written : ℕ → List ℕ → List ℕ → List ℕ → List ℕ → List ℕ → List (List ℕ)

@@ -7,19 +7,15 @@ mod table;
 use forms::Form;
 use series::Refusal;
 use series::Terms;
-use text_rules::Heading;
+use text_rules::TermsColumns;
 use text_words::columns::same_numbers;
 use text_words::letters::letter_of;
-use text_words::names::heading_of;
-ghost use mathlib.Core.Path.{_≡_};
 ghost use Prim.Native.Nat.{_≤_};
 ghost use mathlib.Core.List.{[], _∷_, _++_};
 ghost use lib.ListN.{length};
-ghost use Rattle.series.specs.Results.{after};
-ghost use Rattle.series.specs.Outputs.{onto};
 ghost use Rattle.text_rules.specs.Rows.{writeRows, rowsOf};
 ghost use Rattle.text_rules.specs.Text.{writeHead};
-ghost use Rattle.text_rules.specs.Calls.{writeInto, tableInto, noteInto, lengthOf};
+ghost use Rattle.text_rules.specs.Calls.{writeInto, tableInto, noteInto, WritingCall};
 ghost use Rattle.text_writing.specs.Answers.{writingOf};
 ghost use Rattle.text_writing.specs.Parts.{Put, FiveColumns};
 ghost use Rattle.text_writing.specs.Tables.{tablesInto};
@@ -35,13 +31,13 @@ fn put_head(head: &mut [u8], coded: bool, form: Form, terms: Terms) -> usize
     requires { ⌜ 65 ≤ length (now head) ⌝ }
     ensures { λ r. ⌜ Put (writeHead coded form terms) (now (head .entry)) 0 (now (head .exit)) r ⌝ }
 {
-    let line2 = names::put_names(head, 0, Heading::Terms);
+    let line2 = names::put_terms_line(head, 0, TermsColumns::MethodExercisedDraw);
     let method = terms.method;
     head[line2] = letter_of(method);
     head[line2 + 1] = b',';
     let exercised = terms.exercised;
-    let line3 = row::put_row(head, line2 + 2, &[exercised.0, terms.draw]);
-    names::put_names(head, line3, heading_of(form, coded))
+    let line3 = row::put_row(head, line2 + 2, &[exercised.0, terms.draw], b',', b'\n');
+    names::put_positions_line(head, line3, form, coded)
 }
 
 // Writes the text of a series in a form, without its codes where every code is its account. A refusal writes nothing, and bytes past the text are kept.
@@ -53,8 +49,7 @@ pub fn write(
     numbers: &[u32],
     text: &mut [u8],
 ) -> Writing
-    ensures { λ r. ⌜ writingOf r ≡ lengthOf (writeInto (record { form = form; terms = terms; codes = now (codes .entry); accounts = now (accounts .entry); numbers = now (numbers .entry) }) (length (now (text .entry)))) ⌝ }
-    ensures { λ _. ⌜ now (text .exit) ≡ after (writeInto (record { form = form; terms = terms; codes = now (codes .entry); accounts = now (accounts .entry); numbers = now (numbers .entry) }) (length (now (text .entry)))) (λ s. onto s (now (text .entry))) (now (text .entry)) ⌝ }
+    ensures { λ r. ⌜ WritingCall (writeInto (record { form = form; terms = terms; codes = now (codes .entry); accounts = now (accounts .entry); numbers = now (numbers .entry) }) (length (now (text .entry)))) (writingOf r) (now (text .entry)) (now (text .exit)) ⌝ }
 {
     let coded = !same_numbers(codes, accounts);
     let mut lines = [0u8; 65];
@@ -106,8 +101,7 @@ fn put_table(text: &mut [u8], names: &[u8], accounts: &[u32], counts: &[u32]) ->
 
 // Writes a table: a names line as given, and a line for each account and its count. A refusal writes nothing, and bytes past the table are kept.
 pub fn write_table(names: &[u8], accounts: &[u32], counts: &[u32], text: &mut [u8]) -> Writing
-    ensures { λ r. ⌜ writingOf r ≡ lengthOf (tableInto (now (names .entry)) (now (accounts .entry)) (now (counts .entry)) (length (now (text .entry)))) ⌝ }
-    ensures { λ _. ⌜ now (text .exit) ≡ after (tableInto (now (names .entry)) (now (accounts .entry)) (now (counts .entry)) (length (now (text .entry)))) (λ s. onto s (now (text .entry))) (now (text .entry)) ⌝ }
+    ensures { λ r. ⌜ WritingCall (tableInto (now (names .entry)) (now (accounts .entry)) (now (counts .entry)) (length (now (text .entry)))) (writingOf r) (now (text .entry)) (now (text .exit)) ⌝ }
 {
     let table = table::measure(names, 3, accounts, accounts, accounts, accounts, counts);
     match table::both_within(table, Writing::Written(0), text.len()) {
@@ -128,8 +122,7 @@ pub fn write_tables(
     lasts2: &[u32],
     text: &mut [u8],
 ) -> Writing
-    ensures { λ r. ⌜ writingOf r ≡ lengthOf (tablesInto (now (names .entry)) (now (accounts .entry) ∷ now (counts .entry) ∷ []) (now («range_names» .entry)) (now (accounts .entry) ∷ now (firsts .entry) ∷ now (lasts .entry) ∷ now (firsts2 .entry) ∷ now (lasts2 .entry) ∷ []) (length (now (text .entry)))) ⌝ }
-    ensures { λ _. ⌜ now (text .exit) ≡ after (tablesInto (now (names .entry)) (now (accounts .entry) ∷ now (counts .entry) ∷ []) (now («range_names» .entry)) (now (accounts .entry) ∷ now (firsts .entry) ∷ now (lasts .entry) ∷ now (firsts2 .entry) ∷ now (lasts2 .entry) ∷ []) (length (now (text .entry)))) (λ s. onto s (now (text .entry))) (now (text .entry)) ⌝ }
+    ensures { λ r. ⌜ WritingCall (tablesInto (now (names .entry)) (now (accounts .entry) ∷ now (counts .entry) ∷ []) (now («range_names» .entry)) (now (accounts .entry) ∷ now (firsts .entry) ∷ now (lasts .entry) ∷ now (firsts2 .entry) ∷ now (lasts2 .entry) ∷ []) (length (now (text .entry)))) (writingOf r) (now (text .entry)) (now (text .exit)) ⌝ }
 {
     let table = table::measure(names, 3, accounts, accounts, accounts, accounts, counts);
     let ranges = table::measure(range_names, 0, accounts, firsts, lasts, firsts2, lasts2);
@@ -154,13 +147,12 @@ pub fn write_tables(
 
 // Writes a note: a line as given, and a line with the number. A refusal writes nothing, and bytes past the note are kept.
 pub fn write_note(names: &[u8], number: u32, text: &mut [u8]) -> Writing
-    ensures { λ r. ⌜ writingOf r ≡ lengthOf (noteInto (now (names .entry)) number (length (now (text .entry)))) ⌝ }
-    ensures { λ _. ⌜ now (text .exit) ≡ after (noteInto (now (names .entry)) number (length (now (text .entry)))) (λ s. onto s (now (text .entry))) (now (text .entry)) ⌝ }
+    ensures { λ r. ⌜ WritingCall (noteInto (now (names .entry)) number (length (now (text .entry)))) (writingOf r) (now (text .entry)) (now (text .exit)) ⌝ }
 {
     let row = [number];
     if text.len() < names.len() + row::row_length(&row) {
         return Writing::Refused(Refusal::OutputTooShort);
     }
     let at = put::put_line(text, 0, names);
-    Writing::Written(row::put_row(text, at, &row))
+    Writing::Written(row::put_row(text, at, &row, b',', b'\n'))
 }

@@ -67,7 +67,7 @@ fn put_rows(
     let mut i = 0;
     while i < fourth.len() {
         let row = [first[i], second[i], third[i], fourth[i], fifth[i]];
-        at = put_row(text, at, &row[left_out..]);
+        at = put_row(text, at, &row[left_out..], b',', b'\n');
         i += 1;
     }
     at

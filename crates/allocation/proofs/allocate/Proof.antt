@@ -1,8 +1,6 @@
 -- `allocate` meets its contract: the call is that of the method.
-use mathlib.Core.Path.{sym, ap, _∙_}
+use mathlib.Core.Path.{refl, sym, ap, _∙_}
 use borrow.Author.Needs.{needs}
-use Rattle.series.specs.declared.Method.{Method}
-use Rattle.judging.proofs.CallLaws.{by-method}
 use Rattle.starts.specs.Starts.{methodFor}
 use Rattle.starts.proofs.StartLaws.{started-method}
 use Rattle.allocation.proofs.allocate.Statement.{statement}
@@ -31,14 +29,14 @@ same-length c = search needs
 
 returns : tie.Need-returns
 returns c = let a = c .before .before .before .before .before .before .before .before .before .before .before .args in
-    by-method (a .terms) Method.Wheel (a .codes .now) (a .accounts .now) (a .shorts .now) _ (a .amounts .now) _ (c .before .before .before .before .enum-told .given .1) (c .before .before .allocate-wheel .ensures)
+    c .before .before .allocate-wheel .ensures (a .terms) (record { given-method = c .before .before .before .before .enum-told .given .1; given-exercised = refl; given-draw = refl })
 
 same-length-2 : tie.Need-same-length-2
 same-length-2 c = search needs
 
 returns-2 : tie.Need-returns-2
 returns-2 c = let a = c .before .before .before .before .before .before .before .before .before .before .before .args in
-    by-method (a .terms) Method.ProRata (a .codes .now) (a .accounts .now) (a .shorts .now) _ (a .amounts .now) _ (c .before .before .before .before .enum-told2 .given .1) (c .before .before .allocate .ensures (a .codes .now))
+    c .before .before .allocate .ensures (a .terms) (a .codes .now) (record { given-method = c .before .before .before .before .enum-told2 .given .1; given-exercised = refl; given-draw = refl })
 
 same-length-3 : tie.Need-same-length-3
 same-length-3 c = search needs
@@ -46,7 +44,8 @@ same-length-3 c = search needs
 returns-3 : tie.Need-returns-3
 returns-3 c = let a = c .before .before .before .before .before .before .before .before .before .before .before .args in
     let by = c .before .before .before .before .start-by in
-    by-method (a .terms) (methodFor (by .result)) (a .codes .now) (a .accounts .now) (a .shorts .now) _ (a .amounts .now) _ (started-method (a .terms .method) (c .before .before .before .before .before .match .keys3) ∙ ap methodFor (sym (by .ensures))) (c .before .before .allocate-started .ensures (a .codes .now))
+    let is = started-method (a .terms .method) (c .before .before .before .before .before .match .keys3) ∙ ap methodFor (sym (by .ensures)) in
+    c .before .before .allocate-started .ensures (a .terms) (a .codes .now) (record { given-method = is; given-exercised = refl; given-draw = refl })
 
 pub allocate-spec : {M : Type 1} → statement M
 allocate-spec =

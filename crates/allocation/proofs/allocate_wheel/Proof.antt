@@ -1,19 +1,31 @@
 -- `allocate_wheel` meets its contract: a refused call keeps its output, any other is assigned by the wheel.
 use borrow.Author.Needs.{needs}
-use mathlib.Core.Path.{refl, sym, ap, _∙_}
+use mathlib.Core.Path.{_≡_, refl, sym, ap, _∙_}
 use lib.ListN.{length}
 use lib.Seq.{length-take-le}
-use Rattle.series.specs.Series.{Series}
+use Rattle.series.specs.Series.{Series, termsOf}
+use Rattle.series.specs.Refusals.{verdict}
 use Rattle.series.specs.declared.Method.{Method}
+use Rattle.series.proofs.CallLaws.{call-by-terms, wheel-judged, wheel-draw}
 use Rattle.judging.specs.Judged.{judgedOf}
 use Rattle.judging.proofs.CallLaws.{fits, call-refused, call-requires, call-allocated}
-use Rattle.allocation.proofs.AllocateLaws.{wheel-requires, wheel-gives}
+use Rattle.allocation.proofs.AllocateLaws.{wheel-gives}
 use Rattle.allocation.proofs.allocate_wheel.Statement.{statement}
 use Rattle.allocation.proofs.allocate_wheel.Tie as tie
 
 -- the series of the call
 abbrev called : tie.Start → Series
-called s = record { terms = record { method = Method.Wheel; exercised = s .args .exercised; draw = s .args .draw }; codes = s .args .codes .now; accounts = s .args .accounts .now; shorts = s .args .shorts .now }
+called s = record { terms = termsOf Method.Wheel (s .args .exercised .0) (s .args .draw); codes = s .args .codes .now; accounts = s .args .accounts .now; shorts = s .args .shorts .now }
+
+-- where the call is judged: its verdict
+abbrev start : tie.After-judge → tie.Start
+start c = c .before .before .before .before .before .before
+
+judged : (c : tie.After-judge) → judgedOf (c .judge .result) ≡ verdict (called (start c)) (length (start c .args .amounts .now))
+judged c = rw (c .before .terms-of .ensures) at (c .judge .ensures)
+
+terms-of-requires : tie.Need-terms-of-requires
+terms-of-requires c κs = search needs
 
 judge-requires : tie.Need-judge-requires
 judge-requires c κs = search needs
@@ -25,41 +37,45 @@ enum-known-total : tie.Need-enum-known-total
 enum-known-total c = search needs
 
 slice-relend-prefix-assign : tie.Need-slice-relend-prefix-assign
-slice-relend-prefix-assign c = let s = c .before .before .before .before .before .before .before .before in
-    let a = s .args in
-    fits (called s) (a .amounts .now) (c .before .total .given .0 .0 .0) (sym (ap judgedOf (c .before .total .given .1)) ∙ c .before .before .before .judge .ensures)
+slice-relend-prefix-assign c = let at = c .before .before .before in
+    fits (called (start at)) (start at .args .amounts .now) (c .before .total .given .0 .0 .0) (sym (ap judgedOf (c .before .total .given .1)) ∙ judged at)
 
 slice-aggregate-assign : tie.Need-slice-aggregate-assign
-slice-aggregate-assign c = let s = c .before .before .before .before .before .before .before .before .before in
-    let a = s .args in
-    sym (length-take-le (length (a .shorts .now)) (a .amounts .now) (fits (called s) (a .amounts .now) (c .before .before .total .given .0 .0 .0) (sym (ap judgedOf (c .before .before .total .given .1)) ∙ c .before .before .before .before .judge .ensures)))
+slice-aggregate-assign c = let at = c .before .before .before .before in
+    let a = start at .args in
+    sym (length-take-le (length (a .shorts .now)) (a .amounts .now) (fits (called (start at)) (a .amounts .now) (c .before .before .total .given .0 .0 .0) (sym (ap judgedOf (c .before .before .total .given .1)) ∙ judged at)))
 
 assign-requires : tie.Need-assign-requires
-assign-requires c κs = let s = c .before .before .before .before .before .before .before .before .before in
-    let a = s .args in
-    let call = call-requires (called s) (a .amounts .now) (c .before .before .total .given .0 .0 .0) (sym (ap judgedOf (c .before .before .total .given .1)) ∙ c .before .before .before .before .judge .ensures) in
-    wheel-requires (called s .terms) (a .shorts .now) _ (c .before .before .total .given .0 .0 .0) (call .0) (call .1) refl
+assign-requires c κs = let at = c .before .before .before .before in
+    let s = called (start at) in
+    let T = c .before .before .total .given .0 .0 .0 in
+    let call = call-requires s (start at .args .amounts .now) T (sym (ap judgedOf (c .before .before .total .given .1)) ∙ judged at) in
+    (call .0, (search needs, λ part. wheel-draw (s .terms) T refl (wheel-judged (s .terms) T (length (s .shorts)) refl part (call .1))))
 
 returns : tie.Need-returns
-returns c = let s = c .before .before .before .before .before .before .before .before in
-    let a = s .args in
-    call-refused (called s) (a .amounts .now) _ (sym (ap judgedOf (c .before .refusal .given .1)) ∙ c .before .before .before .judge .ensures)
+returns c = let at = c .before .before .before in
+    let s = called (start at) in
+    λ t given. call-by-terms t _ _ _ (s .codes) (s .accounts) (s .shorts) given (call-refused s (start at .args .amounts .now) _ (sym (ap judgedOf (c .before .refusal .given .1)) ∙ judged at))
 
 same-length : tie.Need-same-length
 same-length c = search needs
 
 returns-2 : tie.Need-returns-2
-returns-2 c = let s = c .before .before .before .before .before .before .before .before .before .before .before .before in
-    let a = s .args in
-    let T = c .before .before .before .before .before .total .given .0 .0 .0 in
-    let v = (sym (ap judgedOf (c .before .before .before .before .before .total .given .1)) ∙ c .before .before .before .before .before .before .before .judge .ensures) in
-    let call = call-requires (called s) (a .amounts .now) T v in
-    call-allocated (called s) (a .amounts .now) T v _ (c .before .before .assign .last .1 .1 .1 .1 .1 .0) (wheel-gives (called s .terms) (a .shorts .now) _ T (call .0) (call .1) refl (c .before .before .assign .result) _ (c .before .before .assign .ensures .0) (c .before .before .assign .ensures .1))
+returns-2 c = let told = c .before .before .before .before .before in
+    let at = told .before .before in
+    let s = called (start at) in
+    let old = start at .args .amounts .now in
+    let T = told .total .given .0 .0 .0 in
+    let v = sym (ap judgedOf (told .total .given .1)) ∙ judged at in
+    let turned = c .before .before .assign in
+    λ t given. call-by-terms t _ _ _ (s .codes) (s .accounts) (s .shorts) given
+    (call-allocated s old T v _ (turned .last .1 .1 .1 .1 .1 .0) (wheel-gives (s .terms) (s .shorts) _ T (call-requires s old T v .0) refl (turned .result) _ (turned .ensures .0) (turned .ensures .1)))
 
 pub allocate-wheel-spec : {M : Type 1} → statement M
 allocate-wheel-spec =
     tie.close
     (tie.spec
+    terms-of-requires
     judge-requires
     enum-known-refusal
     enum-known-total

@@ -32,8 +32,11 @@ list-at-requires-4 c κs = search needs
 array-read-show : tie.Need-array-read-show
 array-read-show c = search needs
 
-array-read-t31 : tie.Need-array-read-t31
-array-read-t31 c = search needs
+array-read-terms-of : tie.Need-array-read-terms-of
+array-read-terms-of c = search needs
+
+terms-of-requires : tie.Need-terms-of-requires
+terms-of-requires c κs = search needs
 
 array-share-prefix-codes : tie.Need-array-share-prefix-codes
 array-share-prefix-codes c = search needs
@@ -75,7 +78,8 @@ show-lists-spec =
     slice-aggregate-list-at-4
     list-at-requires-4
     array-read-show
-    array-read-t31
+    array-read-terms-of
+    terms-of-requires
     array-share-prefix-codes
     slice-aggregate-show
     array-share-prefix-accounts

@@ -1,10 +1,6 @@
 -- `print` meets its contract: the table that is written is what is printed for the allocation.
-use mathlib.Core.Path.{ap, _∙_}
 use lib.ListN.{length}
 use Rattle.series.specs.Ascii.{ascii}
-use Rattle.series.specs.Results.{after}
-use Rattle.series.specs.Outputs.{onto}
-use Rattle.text_rules.specs.Calls.{lengthOf}
 use Rattle.responses.specs.Printed.{assignedLines}
 use Rattle.responses.proofs.ResponseLaws.{allocation-printed}
 use Rattle.assignment_text.proofs.PrintLaws.{table-is}
@@ -28,9 +24,7 @@ returns : tie.Need-returns
 unfolding ascii
 returns c = let s = c .before .before .before .before .before .before .before .before .before in
     let a = s .args in
-    let written = c .before .before .before .write-table .ensures in
-    let same = table-is (a .accounts .now) (a .amounts .now) (length (a .output .now)) (s .pre .0) (s .pre .1) in
-    allocation-printed (assignedLines (a .accounts .now) (a .amounts .now)) (a .output .now) _ _ (c .answer-written .result) (c .answer-written .ensures) (written .0 ∙ ap lengthOf same) (written .1 ∙ ap (λ w. after w (λ t. onto t (a .output .now)) (a .output .now)) same)
+    allocation-printed (assignedLines (a .accounts .now) (a .amounts .now)) (a .output .now) _ (c .answer-written .result) _ (rw (table-is (a .accounts .now) (a .amounts .now) (length (a .output .now)) (s .pre .0) (s .pre .1)) at (c .before .before .before .write-table .ensures)) (c .answer-written .ensures)
 
 pub print-spec : {M : Type 1} → statement M
 print-spec =

@@ -1,12 +1,7 @@
 -- `print_ranges` meets its contract: the two tables that are written are what is printed.
-use mathlib.Core.Path.{ap, _∙_}
-use mathlib.Core.List.{[], _∷_, _++_}
+use mathlib.Core.List.{_++_}
 use lib.ListN.{length}
 use Rattle.series.specs.Ascii.{ascii}
-use Rattle.series.specs.Results.{after}
-use Rattle.series.specs.Outputs.{onto}
-use Rattle.text_rules.specs.Calls.{lengthOf}
-use Rattle.text_writing.specs.Tables.{tablesInto}
 use Rattle.responses.specs.Printed.{assignedLines, rangeLines}
 use Rattle.responses.proofs.ResponseLaws.{allocation-printed}
 use Rattle.assignment_text.proofs.PrintLaws.{tables-are}
@@ -46,11 +41,12 @@ same-length-5 c = search needs
 
 returns : tie.Need-returns
 unfolding ascii
-returns c = let s = c .before .before .before .before .before .before .before .before .before .before .before .before .before .before .before .before .before .before .before .before .before .before .before .before .before .before .before .before .before .before .before in
+returns c = let f = c .before .before .before .before .before .before .before .before .before .before .before .before .before .before .before .before .before .before .before in
+    let s = f .before .before .before .before .before .before .before .before .before .before .before .before in
     let a = s .args in
-    let written = c .before .before .before .write-tables .ensures in
-    let same = ap (λ cs. tablesInto (ascii "account,assigned\n") (a .accounts .now ∷ a .amounts .now ∷ []) (ascii "account,first,last,first2,last2\n") cs (length (a .output .now))) (c .before .before .before .before .before .before .before .before .before .before .before .before .before .before .before .before .before .before .before .fill .ensures (a .accounts .now)) ∙ tables-are (a .accounts .now) (a .numbers .now) (a .amounts .now) (length (a .output .now)) (s .pre .0) in
-    allocation-printed (assignedLines (a .accounts .now) (a .amounts .now) ++ rangeLines (a .accounts .now) (a .numbers .now)) (a .output .now) _ _ (c .answer-written .result) (c .answer-written .ensures) (written .0 ∙ ap lengthOf same) (written .1 ∙ ap (λ w. after w (λ t. onto t (a .output .now)) (a .output .now)) same)
+    let tables = tables-are (a .accounts .now) (a .numbers .now) (a .amounts .now) (length (a .output .now)) (s .pre .0) in
+    allocation-printed (assignedLines (a .accounts .now) (a .amounts .now) ++ rangeLines (a .accounts .now) (a .numbers .now)) (a .output .now) _ (c .answer-written .result) _
+    (rw (f .fill .ensures (a .accounts .now), tables) at (c .before .before .before .write-tables .ensures)) (c .answer-written .ensures)
 
 pub print-ranges-spec : {M : Type 1} → statement M
 print-ranges-spec =

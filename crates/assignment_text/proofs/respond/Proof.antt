@@ -1,13 +1,12 @@
 -- `respond` meets its contract: what reading gives is assigned, and a refusal of either is printed.
 use Prim.Native.Nat.{_≤_}
-use mathlib.Core.Path.{_≡_, sym, ap, _∙_}
+use mathlib.Core.Path.{_≡_, sym, _∙_}
 use native.Mathlib.Omega.{arith}
 use lib.ListN.{length, take}
 use lib.Seq.{length-take-le}
 use Rattle.series.specs.Results.{value}
 use Rattle.text_rules.specs.Text.{MOST_LINES, readText}
 use Rattle.text_rules.proofs.ReadingLaws.{read-refused, read-listing}
-use Rattle.series_text.specs.Answers.{readingOf}
 use Rattle.assignment_text.proofs.PrintLaws.{text-refused, text-read}
 use borrow.Author.Needs.{needs}
 use Rattle.assignment_text.proofs.respond.Statement.{statement}
@@ -17,10 +16,8 @@ use Rattle.assignment_text.proofs.respond.Tie as tie
 listing-read : (c : tie.After-known-told2) → let line = c .before .form .given .0 in let lists = c .before .before .before .before .before .before .read .last .1 in
     (line .1 .1 .0 ≤ MOST_LINES) × (readText (c .before .before .before .before .before .before .before .before .before .before .before .before .args .text .now) ≡ value (record { form = line .0; terms = line .1 .0; codes = take (line .1 .1 .0) (lists .0); accounts = take (line .1 .1 .0) (lists .1 .0); numbers = take (line .1 .1 .0) (lists .1 .1 .0) }))
 listing-read c =
-    let text = c .before .before .before .before .before .before .before .before .before .before .before .before .args .text .now in
-    let read = c .before .before .before .before .before .before .read in
     let line = c .before .form .given .0 in
-    read-listing text 1024 1024 1024 (omega arith) (omega arith) (omega arith) (line .0) (line .1 .0) (line .1 .1 .0) _ _ _ _ _ _ (ap readingOf (sym (c .before .form .given .1)) ∙ read .ensures .0) (read .ensures .1 .0) (read .ensures .1 .1 .0) (read .ensures .1 .1 .1)
+    read-listing _ _ _ _ (omega arith) (omega arith) (omega arith) (line .0) (line .1 .0) (line .1 .1 .0) (rw (c .before .form .given .1) at (c .before .before .before .before .before .before .read .ensures))
 
 -- each list has room for them
 fits : (c : tie.After-known-told2) → let n = c .before .form .given .0 .1 .1 .0 in let lists = c .before .before .before .before .before .before .read .last .1 in
@@ -83,14 +80,19 @@ same-length : tie.Need-same-length
 same-length c = search needs
 
 returns : tie.Need-returns
-returns c = let a = c .before .before .before .before .before .before .before .before .before .before .before .before .before .before .before .before .args in
-    text-refused (a .text .now) (c .before .before .refuse .result) (a .output .now) _ _ (read-refused (a .text .now) 1024 1024 1024 (omega arith) (omega arith) (omega arith) _ (ap readingOf (sym (c .before .before .before .before .before .refusal .given .1)) ∙ c .before .before .before .before .before .before .before .before .before .before .read .ensures .0)) (c .before .before .refuse .ensures)
+returns c = let told = c .before .before .before .before .before in
+    let read = told .before .before .before .before .before in
+    let a = read .before .before .before .before .before .before .args in
+    text-refused (a .text .now) (c .before .before .refuse .result) (a .output .now) _ _ (read-refused _ _ _ _ (omega arith) (omega arith) (omega arith) _ (rw (told .refusal .given .1) at (read .read .ensures))) (c .before .before .refuse .ensures)
 
 same-length-2 : tie.Need-same-length-2
 same-length-2 c = search needs
 
 returns-2 : tie.Need-returns-2
-returns-2 c = let a = c .before .before .before .before .before .before .before .before .before .before .before .before .before .before .before .before .before .before .before .before .before .before .before .args in text-read (a .text .now) (c .before .before .before .before .before .assign-listing .result) (a .output .now) _ _ (listing-read (c .before .before .before .before .before .before .before .before .before .before .before) .1) (c .before .before .before .before .before .assign-listing .ensures)
+returns-2 c = let assigned = c .before .before .before .before .before in
+    let known = assigned .before .before .before .before .before .before in
+    let a = known .before .before .before .before .before .before .before .before .before .before .before .before .args in
+    text-read (a .text .now) (assigned .assign-listing .result) (a .output .now) _ _ (listing-read known .1) (assigned .assign-listing .ensures)
 
 pub respond-spec : {M : Type 1} → statement M
 respond-spec =

@@ -1,6 +1,4 @@
 -- `respond` meets its contract: the changed text, or the lines of a refusal, before which nothing was written.
-use mathlib.Core.Path.{sym, ap, _∙_}
-use Rattle.text_writing.specs.Answers.{writingOf}
 use Rattle.change_form.proofs.RoomLaws.{whole-written, whole-refused}
 use borrow.Author.Needs.{needs}
 use Rattle.change_form.proofs.respond.Statement.{statement}
@@ -22,15 +20,16 @@ same-length : tie.Need-same-length
 same-length c = search needs
 
 returns : tie.Need-returns
-returns c = let s = c .before .before .before .before .before .before .before .before .before in let change = c .before .before .before .before .before .change in
-    whole-written (s .args .text .now) (s .args .output .now) _ _ (s .pre) (sym (ap writingOf (c .before .n .given .1)) ∙ change .ensures .0) (change .ensures .1)
+returns c = let s = c .before .before .before .before .before .before .before .before .before in
+    whole-written (s .args .text .now) (s .args .output .now) _ _ (s .pre) (rw (c .before .n .given .1) at (c .before .before .before .before .before .change .ensures))
 
 same-length-2 : tie.Need-same-length-2
 same-length-2 c = search needs
 
 returns-2 : tie.Need-returns-2
-returns-2 c = let s = c .before .before .before .before .before .before .before .before .before .before .before .before .before in let change = c .before .before .before .before .before .before .before .before .before .change in
-    whole-refused (s .args .text .now) (s .args .output .now) _ _ _ (c .before .before .refuse .result) (s .pre) (sym (ap writingOf (c .before .before .before .before .before .refusal .given .1)) ∙ change .ensures .0) (change .ensures .1) (c .before .before .refuse .ensures)
+returns-2 c = let s = c .before .before .before .before .before .before .before .before .before .before .before .before .before in
+    let change = c .before .before .before .before .before .before .before .before .before .change in
+    whole-refused (s .args .text .now) (s .args .output .now) _ _ _ (c .before .before .refuse .result) (s .pre) (rw (c .before .before .before .before .before .refusal .given .1) at (change .ensures)) (c .before .before .refuse .ensures)
 
 pub respond-spec : {M : Type 1} → statement M
 respond-spec =

@@ -41,15 +41,27 @@ same-length : tie.Need-same-length
 same-length c = search needs
 
 returns-2 : tie.Need-returns-2
-returns-2 c = let a = c .before .before .before .before .before .before .before .before .before .before .before .before .before .before .before .before .before .before .args in
-    allocate-known (a .method) (a .form) (a .exercised) (a .draw) (a .codes .now) (a .accounts .now) (a .numbers .now) _ (sym (ap namedMeans (c .before .before .before .before .before .before .before .before .before .before .before .named .given .1)) ∙ c .before .before .before .before .before .before .before .before .before .before .before .before .before .method-by .ensures) _ (c .before .before .before .before .before .before .before .before .before .terms-of .ensures) _ (c .before .before .before .before .before .before .before .before .form-by .ensures) _ _ (a .amounts .now) _ (a .total .now) (a .further .now) (sym (ap numbersMean (c .before .sum .given .1)) ∙ c .before .before .before .numbers-of .ensures) (c .before .before .before .before .before .before .allocate .ensures)
+returns-2 c = let numbers = c .before .before .before in
+    let call = numbers .before .before .before in
+    let form = call .before .before in
+    let named = form .before .before .before in
+    let by = named .before .before in
+    let a = by .before .before .before .before .before .args in
+    allocate-known (a .method) (a .form) (a .exercised) (a .draw) (a .codes .now) (a .accounts .now) (a .numbers .now) _ (sym (ap namedMeans (named .named .given .1)) ∙ by .method-by .ensures) _ (form .before .terms-of .ensures) _ (form .form-by .ensures) _ _
+    (a .amounts .now) _ (a .total .now) (a .further .now) (sym (ap numbersMean (c .before .sum .given .1)) ∙ numbers .numbers-of .ensures) (call .allocate .ensures)
 
 same-length-2 : tie.Need-same-length-2
 same-length-2 c = search needs
 
 returns-3 : tie.Need-returns-3
-returns-3 c = let a = c .before .before .before .before .before .before .before .before .before .before .before .before .before .before .before .before .before .before .args in
-    allocate-known (a .method) (a .form) (a .exercised) (a .draw) (a .codes .now) (a .accounts .now) (a .numbers .now) _ (sym (ap namedMeans (c .before .before .before .before .before .before .before .before .before .before .before .named .given .1)) ∙ c .before .before .before .before .before .before .before .before .before .before .before .before .before .method-by .ensures) _ (c .before .before .before .before .before .before .before .before .before .terms-of .ensures) _ (c .before .before .before .before .before .before .before .before .form-by .ensures) _ _ (a .amounts .now) _ (a .total .now) (a .further .now) (sym (ap numbersMean (c .before .number .given .1)) ∙ c .before .before .before .numbers-of .ensures) (c .before .before .before .before .before .before .allocate .ensures)
+returns-3 c = let numbers = c .before .before .before in
+    let call = numbers .before .before .before in
+    let form = call .before .before in
+    let named = form .before .before .before in
+    let by = named .before .before in
+    let a = by .before .before .before .before .before .args in
+    allocate-known (a .method) (a .form) (a .exercised) (a .draw) (a .codes .now) (a .accounts .now) (a .numbers .now) _ (sym (ap namedMeans (named .named .given .1)) ∙ by .method-by .ensures) _ (form .before .terms-of .ensures) _ (form .form-by .ensures) _ _
+    (a .amounts .now) _ (a .total .now) (a .further .now) (sym (ap numbersMean (c .before .number .given .1)) ∙ numbers .numbers-of .ensures) (call .allocate .ensures)
 
 pub dilbreth-allocate-spec : {M : Type 1} → statement M
 dilbreth-allocate-spec =

@@ -14,7 +14,7 @@ same-length : tie.Need-same-length
 same-length c = search needs
 
 returns : tie.Need-returns
-returns c = let a = c .before .before .before .before .before .before .before .before .args in by-length _ _ _ (a .output .now) _ (a .written .now) _ (c .before .before .before .before .change .ensures .0) (c .before .before .before .before .change .ensures .1) (c .hand-length .ensures .0) (c .hand-length .ensures .1)
+returns c = by-length _ _ _ _ _ _ (c .before .before .before .before .change .ensures) (c .hand-length .ensures)
 
 pub dilbreth-change-spec : {M : Type 1} → statement M
 dilbreth-change-spec =

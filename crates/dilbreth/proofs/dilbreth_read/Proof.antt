@@ -34,9 +34,11 @@ same-length-3 : tie.Need-same-length-3
 same-length-3 c = search needs
 
 returns : tie.Need-returns
-returns c = let a = c .before .before .before .before .before .before .before .before .before .before .before .before .before .before .before .before .before .before .before .args in
-    let read = c .before .before .before .before .before .before .before .before .before .before .before .read in
-    (read .ensures .1 .0, (read .ensures .1 .1 .0, (read .ensures .1 .1 .1, rw (c .before .letter-of .ensures, c .number-of .ensures) (read-hands _ _ (a .method .now) (a .exercised .now) (a .draw .now) (a .form .now) (a .positions .now) (sym (ap readingOf (c .before .before .before .listed .given .1)) ∙ read .ensures .0)))))
+returns c = let told = c .before .before .before in
+    let read = told .before .before .before .before .before .before .before .before in
+    let a = read .before .before .before .before .before .before .before .before .args in
+    rw (c .before .letter-of .ensures, c .number-of .ensures)
+    (read-hands _ _ _ _ _ (a .method .now) (a .exercised .now) (a .draw .now) (a .form .now) (a .positions .now) (sym (ap readingOf (told .listed .given .1)) ∙ read .read .ensures .answered) (read .read .ensures .written))
 
 same-length-4 : tie.Need-same-length-4
 same-length-4 c = search needs
@@ -48,9 +50,11 @@ same-length-6 : tie.Need-same-length-6
 same-length-6 c = search needs
 
 returns-2 : tie.Need-returns-2
-returns-2 c = let a = c .before .before .before .before .before .before .before .before .before .before .before .before .before .before .before .before .before .before .args in
-    let read = c .before .before .before .before .before .before .before .before .before .before .read in
-    (read .ensures .1 .0, (read .ensures .1 .1 .0, (read .ensures .1 .1 .1, rw (c .number .ensures) (read-hands _ _ (a .method .now) (a .exercised .now) (a .draw .now) (a .form .now) (a .positions .now) (sym (ap readingOf (c .before .before .refusal .given .1)) ∙ read .ensures .0)))))
+returns-2 c = let told = c .before .before in
+    let read = told .before .before .before .before .before .before .before .before in
+    let a = read .before .before .before .before .before .before .before .before .args in
+    rw (c .number .ensures)
+    (read-hands _ _ _ _ _ (a .method .now) (a .exercised .now) (a .draw .now) (a .form .now) (a .positions .now) (sym (ap readingOf (told .refusal .given .1)) ∙ read .read .ensures .answered) (read .read .ensures .written))
 
 pub dilbreth-read-spec : {M : Type 1} → statement M
 dilbreth-read-spec =

@@ -34,9 +34,12 @@ same-length : tie.Need-same-length
 same-length c = search needs
 
 returns-2 : tie.Need-returns-2
-returns-2 c = let a = c .before .before .before .before .before .before .before .before .before .before .before .before .before .before .before .before .args in
-    let write = c .before .before .before .before .write in
-    write-known (a .method) (a .form) (a .exercised) (a .draw) (a .codes .now) (a .accounts .now) (a .numbers .now) _ (sym (ap namedMeans (c .before .before .before .before .before .before .before .before .before .named .given .1)) ∙ c .before .before .before .before .before .before .before .before .before .before .before .method-by .ensures) _ (c .before .before .before .before .before .before .before .terms-of .ensures) _ (c .before .before .before .before .before .before .form-by .ensures) _ _ (a .text .now) _ (a .written .now) _ (write .ensures .0) (write .ensures .1) (c .hand-length .ensures .0) (c .hand-length .ensures .1)
+returns-2 c = let t = c .before .before .before .before .before .before .before in
+    let m = t .before .before .before .before in
+    let a = m .before .before .before .before .before .args in
+    write-known (a .method) (a .form) (a .exercised) (a .draw) (a .codes .now) (a .accounts .now) (a .numbers .now)
+    _ (sym (ap namedMeans (t .before .before .named .given .1)) ∙ m .method-by .ensures) _ (t .terms-of .ensures) _ (c .before .before .before .before .before .before .form-by .ensures)
+    _ _ (a .text .now) _ _ (c .before .before .before .before .write .ensures) (c .hand-length .ensures)
 
 pub dilbreth-write-spec : {M : Type 1} → statement M
 dilbreth-write-spec =

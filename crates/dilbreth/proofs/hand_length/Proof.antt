@@ -1,7 +1,5 @@
 -- `hand_length` meets its contract.
-use mathlib.Core.Path.{sym, ap, _∙_}
-use Rattle.series.specs.Results.{after, status}
-use Rattle.text_writing.specs.Answers.{writingOf}
+use mathlib.Core.Path.{refl}
 use borrow.Author.Needs.{needs}
 use Rattle.dilbreth.proofs.hand_length.Statement.{statement}
 use Rattle.dilbreth.proofs.hand_length.Tie as tie
@@ -19,7 +17,7 @@ returns : tie.Need-returns
 returns c = search needs
 
 returns-2 : tie.Need-returns-2
-returns-2 c = let a = c .before .before .before .before .args in let is = ap writingOf (sym (c .before .before .writing2 .given .1)) in (c .number .ensures ∙ ap status is, ap (λ w. after w (λ n. n) (a .written .now)) is)
+returns-2 c = rw (c .before .before .writing2 .given .1) (record { answers = c .number .ensures; hands-number = refl })
 
 pub hand-length-spec : {M : Type 1} → statement M
 hand-length-spec =

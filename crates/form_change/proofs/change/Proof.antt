@@ -1,6 +1,6 @@
 -- `change` meets its contract: what reading gives is changed, and a refusal of either stands.
 use Prim.Native.Nat.{_≤_}
-use mathlib.Core.Path.{_≡_, sym, ap, _∙_}
+use mathlib.Core.Path.{_≡_, sym, _∙_}
 use native.Mathlib.Omega.{arith}
 use lib.ListN.{length, take}
 use lib.Seq.{length-take-le}
@@ -8,8 +8,8 @@ use Rattle.series.specs.Results.{value}
 use Rattle.text_rules.specs.Text.{MOST_LINES, readText}
 use Rattle.text_rules.specs.Calls.{changeInto}
 use Rattle.text_rules.proofs.ReadingLaws.{read-refused, read-listing}
-use Rattle.series_text.specs.Answers.{readingOf}
-use Rattle.form_change.proofs.CallLaws.{refused-writes, text-refused, written-text}
+use Rattle.text_rules.proofs.WritingLaws.{refused-writes}
+use Rattle.form_change.proofs.CallLaws.{text-refused, written-text}
 use borrow.Author.Needs.{needs}
 use Rattle.form_change.proofs.change.Statement.{statement}
 use Rattle.form_change.proofs.change.Tie as tie
@@ -18,10 +18,8 @@ use Rattle.form_change.proofs.change.Tie as tie
 listing-read : (c : tie.After-known-told2) → let line = c .before .form .given .0 in let lists = c .before .before .before .before .before .before .read .last .1 in
     (line .1 .1 .0 ≤ MOST_LINES) × (readText (c .before .before .before .before .before .before .before .before .before .before .before .before .args .text .now) ≡ value (record { form = line .0; terms = line .1 .0; codes = take (line .1 .1 .0) (lists .0); accounts = take (line .1 .1 .0) (lists .1 .0); numbers = take (line .1 .1 .0) (lists .1 .1 .0) }))
 listing-read c =
-    let text = c .before .before .before .before .before .before .before .before .before .before .before .before .args .text .now in
-    let read = c .before .before .before .before .before .before .read in
     let line = c .before .form .given .0 in
-    read-listing text 1024 1024 1024 (omega arith) (omega arith) (omega arith) (line .0) (line .1 .0) (line .1 .1 .0) _ _ _ _ _ _ (ap readingOf (sym (c .before .form .given .1)) ∙ read .ensures .0) (read .ensures .1 .0) (read .ensures .1 .1 .0) (read .ensures .1 .1 .1)
+    read-listing _ _ _ _ (omega arith) (omega arith) (omega arith) (line .0) (line .1 .0) (line .1 .1 .0) (rw (c .before .form .given .1) at (c .before .before .before .before .before .before .read .ensures))
 
 -- each list has room for them
 fits : (c : tie.After-known-told2) → let n = c .before .form .given .0 .1 .1 .0 in let lists = c .before .before .before .before .before .before .read .last .1 in
@@ -76,13 +74,15 @@ change-list-requires c κs = length-take-le _ _ (listing-read (c .before .before
 
 returns : tie.Need-returns
 returns c = let a = c .before .before .before .before .before .before .before .before .before .before .before .before .args in
-    refused-writes _ (changeInto (a .text .now) (length (a .output .now))) (a .output .now) (text-refused (a .text .now) (length (a .output .now)) _ (read-refused (a .text .now) 1024 1024 1024 (omega arith) (omega arith) (omega arith) _ (ap readingOf (sym (c .before .refusal .given .1)) ∙ c .before .before .before .before .before .before .read .ensures .0)))
+    refused-writes (changeInto (a .text .now) (length (a .output .now))) (a .output .now) _ (text-refused (a .text .now) (length (a .output .now)) _ (read-refused _ _ _ _ (omega arith) (omega arith) (omega arith) _ (rw (c .before .refusal .given .1) at (c .before .before .before .before .before .before .read .ensures))))
 
 same-length : tie.Need-same-length
 same-length c = search needs
 
 returns-2 : tie.Need-returns-2
-returns-2 c = let a = c .before .before .before .before .before .before .before .before .before .before .before .before .before .before .before .before .before .before .before .before .before .args in written-text (a .text .now) _ _ (a .output .now) _ (listing-read (c .before .before .before .before .before .before .before .before .before) .1) (c .before .before .before .change-list .ensures)
+returns-2 c = let known = c .before .before .before .before .before .before .before .before .before in
+    let a = known .before .before .before .before .before .before .before .before .before .before .before .before .args in
+    written-text (a .text .now) _ _ (a .output .now) _ (listing-read known .1) (c .before .before .before .change-list .ensures)
 
 pub change-spec : {M : Type 1} → statement M
 change-spec =

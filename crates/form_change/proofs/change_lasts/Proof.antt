@@ -7,7 +7,8 @@ use Rattle.forms.specs.declared.Form.{Form}
 use Rattle.forms.proofs.FillLaws.{fill-whole}
 use Rattle.text_rules.specs.Calls.{changedInto}
 use Rattle.rising_lists.specs.Judged.{judgedOf}
-use Rattle.form_change.proofs.CallLaws.{refused-writes, list-refused, written-other}
+use Rattle.text_rules.proofs.WritingLaws.{refused-writes}
+use Rattle.form_change.proofs.CallLaws.{list-refused, written-other}
 use borrow.Author.Needs.{needs}
 use Rattle.form_change.proofs.change_lasts.Statement.{statement}
 use Rattle.form_change.proofs.change_lasts.Tie as tie
@@ -34,10 +35,12 @@ same-length : tie.Need-same-length
 same-length c = search needs
 
 returns : tie.Need-returns
-returns c = let s = c .before .before .before .before .before .before .before .before .before .before .before .before .before .before .before in let a = s .args in
+returns c = let f = c .before .before .before .before .before .before .before .before in
+    let s = f .before .before .before .before .before .before .before in
+    let a = s .args in
     let l : Listing = record { form = Form.LastNumbers; terms = a .terms; codes = a .codes .now; accounts = a .accounts .now; numbers = a .lasts .now } in
-    let filled = fill-whole (a .lasts .now) (a .shorts .now) _ (s .pre) (c .before .before .before .before .before .before .before .before .fill-shorts .ensures) in
-    refused-writes _ (changedInto l (length (a .output .now))) (a .output .now)
+    let filled = fill-whole (a .lasts .now) (a .shorts .now) _ (s .pre) (f .fill-shorts .ensures) in
+    refused-writes (changedInto l (length (a .output .now))) (a .output .now) _
     (list-refused l (length (a .output .now)) _ _ (ap judgedOf (sym (c .before .before .refusal .given .1)) ∙ c .before .before .before .before .judge-list .ensures ∙ ap (listVerdict (a .terms .method) (a .codes .now) (a .accounts .now)) filled) (c .refusal-in .ensures))
 
 same-length-2 : tie.Need-same-length-2
@@ -47,10 +50,13 @@ same-length-3 : tie.Need-same-length-3
 same-length-3 c = search needs
 
 returns-2 : tie.Need-returns-2
-returns-2 c = let s = c .before .before .before .before .before .before .before .before .before .before .before .before .before .before .before .before .before .before in let a = s .args in
+returns-2 c = let judge = c .before .before .before .before .before .before .before in
+    let f = judge .before .before .before .before in
+    let s = f .before .before .before .before .before .before .before in
+    let a = s .args in
     let l : Listing = record { form = Form.LastNumbers; terms = a .terms; codes = a .codes .now; accounts = a .accounts .now; numbers = a .lasts .now } in
-    let filled = fill-whole (a .lasts .now) (a .shorts .now) _ (s .pre) (c .before .before .before .before .before .before .before .before .before .before .before .fill-shorts .ensures) in
-    written-other l _ _ (a .output .now) _ _ (ap judgedOf (sym (c .before .before .before .before .before .enum-told .given .1)) ∙ c .before .before .before .before .before .before .before .judge-list .ensures ∙ ap (listVerdict (a .terms .method) (a .codes .now) (a .accounts .now)) filled) filled (c .before .before .write .ensures)
+    let filled = fill-whole (a .lasts .now) (a .shorts .now) _ (s .pre) (f .fill-shorts .ensures) in
+    written-other l _ _ (a .output .now) _ _ (ap judgedOf (sym (c .before .before .before .before .before .enum-told .given .1)) ∙ judge .judge-list .ensures ∙ ap (listVerdict (a .terms .method) (a .codes .now) (a .accounts .now)) filled) filled (c .before .before .write .ensures)
 
 pub change-lasts-spec : {M : Type 1} → statement M
 change-lasts-spec =

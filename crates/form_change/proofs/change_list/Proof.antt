@@ -1,6 +1,4 @@
 -- `change_list` meets its contract.
-use Rattle.forms.specs.declared.Form.{Form}
-use Rattle.form_change.proofs.CallLaws.{in-form}
 use borrow.Author.Needs.{needs}
 use Rattle.form_change.proofs.change_list.Statement.{statement}
 use Rattle.form_change.proofs.change_list.Tie as tie
@@ -24,7 +22,7 @@ same-length-2 : tie.Need-same-length-2
 same-length-2 c = search needs
 
 returns : tie.Need-returns
-returns c = let a = c .before .before .before .before .before .before .before .before .before .before .before .before .before .before .args in in-form (a .form) Form.Shorts (a .terms) (a .codes .now) (a .accounts .now) (a .numbers .now) _ (a .output .now) _ (c .before .before .before .before .before .before .before .enum-told .given .1) (c .before .before .before .before .change-shorts .ensures)
+returns c = let told = c .before .before .before .before .before .before .before .enum-told in rw (told .given .1) (c .before .before .before .before .change-shorts .ensures)
 
 same-length-3 : tie.Need-same-length-3
 same-length-3 c = search needs
@@ -33,7 +31,7 @@ same-length-4 : tie.Need-same-length-4
 same-length-4 c = search needs
 
 returns-2 : tie.Need-returns-2
-returns-2 c = let a = c .before .before .before .before .before .before .before .before .before .before .before .before .before .before .args in in-form (a .form) Form.LastNumbers (a .terms) (a .codes .now) (a .accounts .now) (a .numbers .now) _ (a .output .now) _ (c .before .before .before .before .before .before .before .enum-told2 .given .1) (c .before .before .before .before .change-lasts .ensures)
+returns-2 c = let told = c .before .before .before .before .before .before .before .enum-told2 in rw (told .given .1) (c .before .before .before .before .change-lasts .ensures)
 
 pub change-list-spec : {M : Type 1} → statement M
 change-list-spec =

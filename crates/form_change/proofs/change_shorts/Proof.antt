@@ -5,7 +5,8 @@ use Rattle.forms.specs.Forms.{Listing}
 use Rattle.forms.specs.declared.Form.{Form}
 use Rattle.text_rules.specs.Calls.{changedInto}
 use Rattle.rising_lists.specs.Judged.{judgedOf}
-use Rattle.form_change.proofs.CallLaws.{judged-small, refused-writes, list-refused, written-other}
+use Rattle.text_rules.proofs.WritingLaws.{refused-writes}
+use Rattle.form_change.proofs.CallLaws.{judged-small, list-refused, written-other}
 use borrow.Author.Needs.{needs}
 use Rattle.form_change.proofs.change_shorts.Statement.{statement}
 use Rattle.form_change.proofs.change_shorts.Tie as tie
@@ -28,7 +29,7 @@ write-requires c κs = search needs
 returns : tie.Need-returns
 returns c = let a = c .before .before .before .before .before .before .before .before .before .args in
     let l : Listing = record { form = Form.Shorts; terms = a .terms; codes = a .codes .now; accounts = a .accounts .now; numbers = a .shorts .now } in
-    refused-writes _ (changedInto l (length (a .output .now))) (a .output .now) (list-refused l (length (a .output .now)) _ _ (ap judgedOf (sym (c .before .refusal .given .1)) ∙ c .before .before .before .judge-list .ensures) refl)
+    refused-writes (changedInto l (length (a .output .now))) (a .output .now) _ (list-refused l (length (a .output .now)) _ _ (ap judgedOf (sym (c .before .refusal .given .1)) ∙ c .before .before .before .judge-list .ensures) refl)
 
 same-length : tie.Need-same-length
 same-length c = search needs
@@ -37,9 +38,11 @@ same-length-2 : tie.Need-same-length-2
 same-length-2 c = search needs
 
 returns-2 : tie.Need-returns-2
-returns-2 c = let a = c .before .before .before .before .before .before .before .before .before .before .before .before .before .before .before .before .before .args in
+returns-2 c = let f = c .before .before .before .before .before .before .before in
+    let judge = f .before .before .before .before in
+    let a = judge .before .before .before .before .before .before .args in
     let l : Listing = record { form = Form.Shorts; terms = a .terms; codes = a .codes .now; accounts = a .accounts .now; numbers = a .shorts .now } in
-    written-other l _ _ (a .output .now) _ _ (ap judgedOf (sym (c .before .before .before .before .before .before .before .before .before .enum-told .given .1)) ∙ c .before .before .before .before .before .before .before .before .before .before .before .judge-list .ensures) (c .before .before .before .before .before .before .before .fill-lasts .ensures) (c .before .before .write .ensures)
+    written-other l _ _ (a .output .now) _ _ (ap judgedOf (sym (f .before .before .enum-told .given .1)) ∙ judge .judge-list .ensures) (f .fill-lasts .ensures) (c .before .before .write .ensures)
 
 pub change-shorts-spec : {M : Type 1} → statement M
 change-shorts-spec =

@@ -1,12 +1,11 @@
 -- `refuse` meets its contract: the note that is written is what is printed for the refusal.
-use mathlib.Core.Path.{_≡_, refl}
+use mathlib.Core.Path.{refl}
 use lib.ListN.{length}
 use Rattle.series.specs.Answers.{numberOf}
-use Rattle.series.specs.Results.{after}
-use Rattle.series.specs.Outputs.{onto}
+use Rattle.series.specs.declared.Refusal.{Refusal}
 use Rattle.series.specs.Ascii.{ascii}
 use Rattle.text_writing.specs.Answers.{writingOf}
-use Rattle.text_rules.specs.Calls.{lengthOf}
+use Rattle.text_rules.specs.Calls.{WritingCall}
 use Rattle.responses.specs.Printed.{refusedLines}
 use Rattle.responses.specs.declared.Response.{Response}
 use Rattle.responses.proofs.ResponseLaws.{textInto, note-is, print-short, print-all}
@@ -15,13 +14,9 @@ use Rattle.responses.proofs.refuse.Statement.{statement}
 use Rattle.responses.proofs.refuse.Tie as tie
 
 -- the note is written
-hands : (c : tie.After-write-note) → writingOf (c .write-note .result) ≡ lengthOf (textInto (refusedLines (numberOf (c .before .before .before .before .before .args .refusal))) (length (c .before .before .before .before .before .args .output .now)))
+note : (c : tie.After-write-note) → let a = c .before .before .before .before .before .args in WritingCall (textInto (refusedLines (numberOf (a .refusal))) (length (a .output .now))) (writingOf (c .write-note .result)) (a .output .now) (c .write-note .last .1 .1 .0)
 unfolding ascii
-hands c = rw (c .before .before .number .ensures, note-is) at (c .write-note .ensures .0)
-
-out : (c : tie.After-write-note) → c .write-note .last .1 .1 .0 ≡ after (textInto (refusedLines (numberOf (c .before .before .before .before .before .args .refusal))) (length (c .before .before .before .before .before .args .output .now))) (λ t. onto t (c .before .before .before .before .before .args .output .now)) (c .before .before .before .before .before .args .output .now)
-unfolding ascii
-out c = rw (c .before .before .number .ensures, note-is) at (c .write-note .ensures .1)
+note c = rw (c .before .before .number .ensures, note-is) at (c .write-note .ensures)
 
 slice-aggregate-write-note : tie.Need-slice-aggregate-write-note
 slice-aggregate-write-note c = search needs
@@ -43,15 +38,14 @@ same-length c = search needs
 
 returns : tie.Need-returns
 returns c = let a = c .before .before .before .before .before .before .before .before .before .before .args in
-    print-all (numberOf (a .refusal)) (refusedLines (numberOf (a .refusal))) (a .output .now) _ (c .before .before .before .before .before .write-note .result) (hands (c .before .before .before .before .before)) (out (c .before .before .before .before .before))
-    (Response.Refused (c .before .n .given .0 .0) (a .refusal)) (c .before .n .given .0 .0) (c .before .n .given .1) refl
+    print-all (numberOf (a .refusal)) (refusedLines (numberOf (a .refusal))) (a .output .now) _ (Response.Refused (c .before .n .given .0 .0) (a .refusal)) _ (rw (c .before .n .given .1) at (note (c .before .before .before .before .before))) refl
 
 same-length-2 : tie.Need-same-length-2
 same-length-2 c = search needs
 
 returns-2 : tie.Need-returns-2
 returns-2 c = let a = c .before .before .before .before .before .before .before .before .before .args in
-    print-short (numberOf (a .refusal)) (refusedLines (numberOf (a .refusal))) (a .output .now) _ (c .before .before .before .before .write-note .result) (hands (c .before .before .before .before)) (out (c .before .before .before .before)) _ (c .enum-told .given .1)
+    print-short (numberOf (a .refusal)) (refusedLines (numberOf (a .refusal))) (a .output .now) _ (Response.Refused 0 Refusal.OutputTooShort) _ (rw (c .enum-told .given .1) at (note (c .before .before .before .before))) refl
 
 pub refuse-spec : {M : Type 1} → statement M
 refuse-spec =

@@ -1,7 +1,6 @@
 -- `judge_by_account` meets its contract: the walk judges the list, since no account falls.
 use mathlib.Core.Path.{refl, subst}
-use Rattle.series.specs.Places.{total}
-use Rattle.series.specs.Refusals.{first, listRows}
+use Rattle.series.specs.Refusals.{listVerdictFor}
 use Rattle.rising_lists.specs.Judged.{walkTells, fallsOnly}
 use Rattle.rising_lists.specs.declared.Walk.{Walk}
 use borrow.Author.Needs.{needs}
@@ -18,7 +17,7 @@ enum-told : tie.Need-enum-told
 enum-told c = search needs
 
 returns : tie.Need-returns
-returns c = let a = c .before .before .before .before .before .before .args in λ m. subst (λ (w : Walk). walkTells w (first (listRows m (a .accounts .now) (a .accounts .now) (a .shorts .now) (a .room)) (total (a .shorts .now)))) (c .before .judged .given .1) (c .before .before .before .judge-rows .ensures .0 m)
+returns c = let a = c .before .before .before .before .before .before .args in λ m. subst (λ (w : Walk). walkTells w (listVerdictFor m (a .accounts .now) (a .accounts .now) (a .shorts .now) (a .room))) (c .before .judged .given .1) (c .before .before .before .judge-rows .ensures .0 m)
 
 returns-2 : tie.Need-returns-2
 returns-2 c = let a = c .before .before .before .before .before .args in λ m. absurd (subst (λ (w : Walk). fallsOnly w (a .accounts .now) (a .accounts .now)) (c .enum-told .given .1) (c .before .before .judge-rows .ensures .1 .0) refl)

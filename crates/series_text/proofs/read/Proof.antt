@@ -21,15 +21,15 @@ lines c = c .before .before .before .before .before .before .before .before .bef
 -- what the calls on the way answered
 head : (c : tie.After-known-told2) → let s = start c .args .text .now in
     let line = c .before .head2 .given .0 in headMeans s (HeadLines.Head (line .0) (line .1 .0) (line .1 .1 .0) (line .1 .1 .1 .0)) ≡ readHead s
-head c = ap (headMeans _) (sym (c .before .head2 .given .1)) ∙ c .before .before .before .read-head .ensures
+head c = ap (headMeans _) (sym (c .before .head2 .given .1)) ∙ c .before .before .before .read-head .ensures .means
 
 positions : (c : tie.After-known-told4) → let lists = c .before .before .before .before .before .before .read-positions .last .1 .1 .1 in
     let line = lines c .before .head2 .given .0 in
     PositionsRead (record { terms = line .0; form = line .1 .0; coded = line .1 .1 .0 }) (drop (line .1 .1 .1 .0) (start (lines c) .args .text .now)) (lists .0) (lists .1 .0) (lists .1 .1 .0) (c .before .n .given .0 .0)
 positions c = let p = c .before .before .before .before .before .before .read-positions in
-    let few : c .before .n .given .0 .0 ≤ MOST_LINES = subst positionsWithin (c .before .n .given .1) (p .ensures .1) in
+    let few : c .before .n .given .0 .0 ≤ MOST_LINES = subst positionsWithin (c .before .n .given .1) (p .ensures .within) in
     record {
-      reads = ap (positionsMean _ _ _ _ _) (sym (c .before .n .given .1)) ∙ p .ensures .0 _ _;
+      reads = ap (positionsMean _ _ _ _ _) (sym (c .before .n .given .1)) ∙ p .ensures .means _ _;
       in-codes = rw (p .kept .1 .1 .1 .0) few;
       in-accounts = rw (p .kept .1 .1 .1 .1 .0) few;
       in-numbers = rw (p .kept .1 .1 .1 .1 .1 .0) few;
@@ -97,12 +97,12 @@ copy-first-requires-3 c κs = let fit = c .before .before .before .before .befor
 
 returns-4 : tie.Need-returns-4
 returns-4 c = let a = c .before .before .before .before .before .before .before .before .args in
-    head-refused (a .text .now) (a .codes .now) (a .accounts .now) (a .numbers .now) (ap (headMeans _) (sym (c .before .head .given .1)) ∙ c .before .before .before .read-head .ensures)
+    head-refused (a .text .now) (a .codes .now) (a .accounts .now) (a .numbers .now) (ap (headMeans _) (sym (c .before .head .given .1)) ∙ c .before .before .before .read-head .ensures .means)
 
 returns-5 : tie.Need-returns-5
 returns-5 c = let call = c .before .before .before .before .before .before in
     let a = start (call .before .before .before .before) .args in
-    positions-fault (a .text .now) (a .codes .now) (a .accounts .now) (a .numbers .now) (head (call .before .before .before .before)) (ap (positionsMean _ _ _ _ _) (sym (c .before .refusal .given .1)) ∙ call .read-positions .ensures .0 _ _)
+    positions-fault (a .text .now) (a .codes .now) (a .accounts .now) (a .numbers .now) (head (call .before .before .before .before)) (ap (positionsMean _ _ _ _ _) (sym (c .before .refusal .given .1)) ∙ call .read-positions .ensures .means _ _)
 
 same-length : tie.Need-same-length
 same-length c = search needs

@@ -1,27 +1,46 @@
 -- `read_terms` meets its contract: each exit is one of the definition's.
-use Prim.Native.Nat.{_+_}
-use mathlib.Core.Path.{_≡_, sym, ap, _∙_}
+use Prim.Native.Nat.{ℕ, _+_, _≤_}
+use mathlib.Core.Path.{_≡_, sym, ap, subst, _∙_}
 use native.Mathlib.Omega.{arith}
 use borrow.Author.Needs.{needs}
-use lib.ListN.{drop}
+use mathlib.Core.List.{[], _∷_}
+use lib.ListN.{length, take, drop}
+use lib.Seq.{length-take-le}
 use Rattle.series.specs.Results.{value}
 use Rattle.text_rules.specs.Fields.{COMMA}
 use Rattle.text_rules.specs.Rows.{readRow}
-use Rattle.text_fields.specs.Parts.{foundMeans, rowMeans}
+use Rattle.text_fields.specs.Parts.{Onward, foundMeans, rowMeans, rowOnward}
+use Rattle.text_fields.proofs.FieldLaws.{onward-byte, onward-more}
 use Rattle.text_fields.proofs.RowLaws.{FoundAt, found-at}
 use Rattle.text_words.specs.Parts.{namedMeans}
-use Rattle.text_head.proofs.HeadLaws.{terms-first, terms-unknown, terms-all, row-found}
+use Rattle.text_head.proofs.HeadLaws.{terms-first, values-read, terms-unknown, terms-all, row-found}
 use Rattle.text_head.proofs.read_terms.Statement.{statement}
 use Rattle.text_head.proofs.read_terms.Tie as tie
 
 -- the first field
 first : (c : tie.After-known-told) → let a = c .before .before .before .before .before .args in FoundAt (a .text .now) (a .at) COMMA (c .before .comma .given .0 .0)
-first c = found-at _ _ _ _ _ (c .before .comma .given .1) (c .before .before .before .find-end .ensures .0) (c .before .before .before .find-end .ensures .1)
+first c = found-at _ _ _ _ _ (c .before .comma .given .1) (c .before .before .before .find-end .ensures)
 
--- the two numbers after it
-numbers : (c : tie.After-known-told2) → let s = c .before .before .before .before .before .before .before .before .before .before .before .args .text .now in
-    value (record { found = c .before .before .before .before .read-row .last .1 .1 .0; rest = drop (c .before .next .given .0 .0) s }) ≡ readRow 2 (drop (c .before .before .before .before .before .before .before .comma .given .0 .0 + 1) s)
-numbers c = ap (rowMeans _ _) (sym (c .before .next .given .1)) ∙ c .before .before .before .before .read-row .ensures
+-- as many numbers are read as are asked for
+asked : (k : ℕ) → k ≤ 2 → length {A = ℕ} (take k (0 ∷ 0 ∷ [])) ≡ k
+asked k few = length-take-le k (0 ∷ 0 ∷ []) few
+
+-- the numbers after it
+numbers : (c : tie.After-read-row) → let a = c .before .before .before .before .before .before .before .args in
+    rowMeans (a .text .now) (c .read-row .last .1 .1 .0) (c .read-row .result) ≡ readRow (a .numbers) (drop (c .before .before .before .comma .given .0 .0 + 1) (a .text .now))
+numbers c = let start = c .before .before .before .before .before .before .before in rw (asked (start .args .numbers) (start .pre)) at (c .read-row .ensures .means)
+
+-- they are there
+told : (c : tie.After-known-told2) → let read = c .before .before .before .before in
+    let a = read .before .before .before .before .before .before .before .args in
+    value (record { found = read .read-row .last .1 .1 .0; rest = drop (c .before .next .given .0 .0) (a .text .now) }) ≡ readRow (a .numbers) (drop (read .before .before .before .comma .given .0 .0 + 1) (a .text .now))
+told c = ap (rowMeans _ _) (sym (c .before .next .given .1)) ∙ numbers (c .before .before .before .before)
+
+-- line 2 is passed
+onward : (c : tie.After-known-told2) → let a = c .before .before .before .before .before .before .before .before .before .before .before .args in Onward (a .text .now) (a .at) (c .before .next .given .0 .0)
+onward c = let read = c .before .before .before .before in
+    let f = first (read .before .before) in
+    onward-more _ _ _ _ (onward-byte _ _ _ (f .after) (f .within)) (subst (rowOnward _ _) (c .before .next .given .1) (read .read-row .ensures .onward))
 
 find-end-requires : tie.Need-find-end-requires
 find-end-requires c κs = search needs
@@ -33,13 +52,16 @@ enum-told : tie.Need-enum-told
 enum-told c = search needs
 
 returns : tie.Need-returns
-returns c = terms-first _ (ap (foundMeans _ _) (sym (c .enum-told .given .1)) ∙ c .before .before .find-end .ensures .0)
+returns c = record { means = terms-first _ _ (ap (foundMeans _ _) (sym (c .enum-told .given .1)) ∙ c .before .before .find-end .ensures .means); onward = tt }
 
 add-read-row : tie.Need-add-read-row
 add-read-row c = omega (arith, first c .within)
 
+array-borrow-prefix-values : tie.Need-array-borrow-prefix-values
+array-borrow-prefix-values c = search needs
+
 slice-aggregate-read-row : tie.Need-slice-aggregate-read-row
-slice-aggregate-read-row c = search needs
+slice-aggregate-read-row c = let start = c .before .before .before .before .before .before in sym (asked (start .args .numbers) (start .pre))
 
 read-row-requires : tie.Need-read-row-requires
 read-row-requires c κs = search needs
@@ -51,10 +73,12 @@ enum-told-2 : tie.Need-enum-told-2
 enum-told-2 c = search needs
 
 refuse-terms-requires : tie.Need-refuse-terms-requires
-refuse-terms-requires c κs = let f = first (c .before .before .before .before .before) in record { after = f .after; within = f .within; first = f .reads; numbers = ap (rowMeans _ _) (sym (c .enum-told2 .given .1)) ∙ c .before .before .before .read-row .ensures }
+refuse-terms-requires c κs = let read = c .before .before .before in
+    let f = first (read .before .before) in
+    record { after = f .after; within = f .within; first = f .reads; numbers = ap (rowMeans _ _) (sym (c .enum-told2 .given .1)) ∙ numbers read }
 
 returns-2 : tie.Need-returns-2
-returns-2 c = c .refuse-terms .ensures
+returns-2 c = record { means = c .refuse-terms .ensures; onward = tt }
 
 read-method-requires : tie.Need-read-method-requires
 read-method-requires c κs = let f = first (c .before .before .before .before .before .before) in (f .after, omega (arith, f .within))
@@ -66,16 +90,28 @@ enum-told-3 : tie.Need-enum-told-3
 enum-told-3 c = search needs
 
 returns-3 : tie.Need-returns-3
-returns-3 c = terms-unknown _ (first (c .before .before .before .before .before .before .before .before .before) .reads) (row-found _ _ (numbers (c .before .before .before))) (ap namedMeans (sym (c .enum-told3 .given .1)) ∙ c .before .before .read-method .ensures)
+returns-3 c = let row = c .before .before .before in
+    let method = ap namedMeans (sym (c .enum-told3 .given .1)) ∙ c .before .before .read-method .ensures in
+    record { means = terms-unknown _ _ (first (row .before .before .before .before .before .before) .reads) (row-found _ _ (told row)) method; onward = tt }
 
-array-read-t18 : tie.Need-array-read-t18
-array-read-t18 c = search needs
+array-read-t20 : tie.Need-array-read-t20
+array-read-t20 c = search needs
 
-array-read-t22 : tie.Need-array-read-t22
-array-read-t22 c = search needs
+array-read-terms-of : tie.Need-array-read-terms-of
+array-read-terms-of c = search needs
+
+terms-of-requires : tie.Need-terms-of-requires
+terms-of-requires c κs = search needs
 
 returns-4 : tie.Need-returns-4
-returns-4 c = terms-all _ (first (c .before .before .before .before .before .before .before .before .before .before) .reads) (ap namedMeans (sym (c .before .method .given .1)) ∙ c .before .before .before .read-method .ensures) (numbers (c .before .before .before .before))
+returns-4 c = let known = c .before in
+    let row = known .before .before .before .before in
+    let read = row .before .before .before .before in
+    let ns = read .read-row .last .1 .1 .0 in
+    let k = read .before .before .before .before .before .before .before .args .numbers in
+    let method = ap namedMeans (sym (known .before .method .given .1)) ∙ known .before .before .before .read-method .ensures in
+    rw (c .terms-of .ensures, values-read ns k 0, values-read ns k 1)
+    (record { means = terms-all _ _ (first (read .before .before) .reads) method (told row); onward = onward row })
 
 pub read-terms-spec : {M : Type 1} → statement M
 read-terms-spec =
@@ -86,6 +122,7 @@ read-terms-spec =
     enum-told
     returns
     add-read-row
+    array-borrow-prefix-values
     slice-aggregate-read-row
     read-row-requires
     enum-known-next
@@ -96,6 +133,7 @@ read-terms-spec =
     enum-known-method
     enum-told-3
     returns-3
-    array-read-t18
-    array-read-t22
+    array-read-t20
+    array-read-terms-of
+    terms-of-requires
     returns-4)

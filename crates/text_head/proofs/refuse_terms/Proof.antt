@@ -14,7 +14,7 @@ has-fields-requires : tie.Need-has-fields-requires
 has-fields-requires c κs = search needs
 
 returns : tie.Need-returns
-returns c = terms-missing _ (c .before .before .before .pre .first) (sym (not-true _ (c .if1 .taken)) ∙ c .before .has-fields .ensures)
+returns c = terms-missing _ _ (c .before .before .before .pre .first) (sym (not-true _ (c .if1 .taken)) ∙ c .before .has-fields .ensures)
 
 read-method-requires : tie.Need-read-method-requires
 read-method-requires c κs = search needs
@@ -26,10 +26,10 @@ enum-told-2 : tie.Need-enum-told-2
 enum-told-2 c = search needs
 
 returns-2 : tie.Need-returns-2
-returns-2 c = terms-unknown _ (c .before .before .before .before .before .before .pre .first) (sym (not-false _ (c .before .before .before .if1 .left)) ∙ c .before .before .before .before .has-fields .ensures) (ap namedMeans (sym (c .enum-told2 .given .1)) ∙ c .before .before .read-method .ensures)
+returns-2 c = terms-unknown _ _ (c .before .before .before .before .before .before .pre .first) (sym (not-false _ (c .before .before .before .if1 .left)) ∙ c .before .before .before .before .has-fields .ensures) (ap namedMeans (sym (c .enum-told2 .given .1)) ∙ c .before .before .read-method .ensures)
 
 returns-3 : tie.Need-returns-3
-returns-3 c = let p = c .before .before .before .before .before .before .pre in terms-malformed _ (p .first) (ap namedMeans (sym (c .enum-told .given .1)) ∙ c .before .before .read-method .ensures) (sym (not-false _ (c .before .before .before .if1 .left)) ∙ c .before .before .before .before .has-fields .ensures) (p .numbers)
+returns-3 c = let p = c .before .before .before .before .before .before .pre in terms-malformed _ _ (p .first) (ap namedMeans (sym (c .enum-told .given .1)) ∙ c .before .before .read-method .ensures) (sym (not-false _ (c .before .before .before .if1 .left)) ∙ c .before .before .before .before .has-fields .ensures) (p .numbers)
 
 pub refuse-terms-spec : {M : Type 1} → statement M
 refuse-terms-spec =

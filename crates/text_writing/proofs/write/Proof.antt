@@ -12,9 +12,9 @@ use Rattle.text_rules.specs.Calls.{headAndLines, writeInto, lengthOf}
 use Rattle.text_rules.proofs.LengthLaws.{head-room}
 use Rattle.text_rules.proofs.RoundTrip.{same-numbers}
 use Rattle.text_writing.specs.Answers.{writingOf}
-use Rattle.text_writing.specs.Parts.{written, Unwritten}
+use Rattle.text_writing.specs.Parts.{written, leftOut, Unwritten}
 use Rattle.text_writing.proofs.PutLaws.{put-taken}
-use Rattle.text_writing.proofs.WriteLaws.{Measured, measured, columns-written, series-unwritten, measured-columns, leaves-refused, text-long, text-short, text-put}
+use Rattle.text_writing.proofs.WriteLaws.{Measured, measured, columns-written, series-unwritten, measured-columns, columns-refused, text-long, text-short, text-put}
 use borrow.Author.Needs.{needs}
 use Rattle.text_writing.proofs.write.Statement.{statement}
 use Rattle.text_writing.proofs.write.Tie as tie
@@ -23,31 +23,42 @@ use Rattle.text_writing.proofs.write.Tie as tie
 abbrev listing : tie.Start → Listing
 listing s = record { form = s .args .form; terms = s .args .terms; codes = s .args .codes .now; accounts = s .args .accounts .now; numbers = s .args .numbers .now }
 
+-- the start, from each place that the laws below speak of
+abbrev at-head : tie.After-put-head → tie.Start
+at-head c = c .before .before .before .before .before .before .before
+
+abbrev at-measure : tie.After-measure → tie.Start
+at-measure c = at-head (c .before .before .before .before)
+
+abbrev at-bytes : tie.After-bytes → tie.Start
+at-bytes c = at-measure (c .before .before)
+
 -- the head has room for its lines
 within : (c : tie.After-put-head) → c .put-head .result ≤ length (c .put-head .last .0)
-within c = omega (arith, head-room (not (c .before .before .same-numbers .result)) (c .before .before .before .before .before .before .before .args .form) (c .before .before .before .before .before .before .before .args .terms), c .put-head .ensures .after, c .put-head .kept .0)
+within c = omega (arith, head-room (not (c .before .before .same-numbers .result)) (at-head c .args .form) (at-head c .args .terms), c .put-head .ensures .after, c .put-head .kept .0)
 
 -- the head is that of the listing
-head-is : (c : tie.After-put-head) → let t = listing (c .before .before .before .before .before .before .before) in take (c .put-head .result) (c .put-head .last .0) ≡ writeHead (writesCodes t) (t .form) (t .terms)
+head-is : (c : tie.After-put-head) → let t = listing (at-head c) in take (c .put-head .result) (c .put-head .last .0) ≡ writeHead (writesCodes t) (t .form) (t .terms)
 unfolding writesCodes
 head-is c = rw (c .before .before .same-numbers .ensures) at (put-taken _ _ _ _ (c .put-head .ensures))
 
 -- the columns are those of the listing
-columns-are : (c : tie.After-left-out-of) → let t = listing (c .before .before .before .before .before .before .before .before .before .before) in written (c .left-out-of .result) (t .accounts) (t .accounts) (t .codes) (t .accounts) (t .numbers) ≡ columns (writesCodes t) t
+columns-are : (c : tie.After-left-out-of) → let t = listing (at-head (c .before .before .before)) in written (c .left-out-of .result) (t .accounts) (t .accounts) (t .codes) (t .accounts) (t .numbers) ≡ columns (writesCodes t) t
 unfolding writesCodes
-columns-are c = let t = listing (c .before .before .before .before .before .before .before .before .before .before) in
-    rw (c .left-out-of .ensures, c .before .before .before .before .before .same-numbers .ensures) (columns-written (writesCodes t) (t .codes) (t .accounts) (t .numbers))
+columns-are c = let t = listing (at-head (c .before .before .before)) in
+    ap (λ k. written k (t .accounts) (t .accounts) (t .codes) (t .accounts) (t .numbers)) (c .left-out-of .ensures ∙ ap (λ same. leftOut (not same)) (c .before .before .before .before .before .same-numbers .ensures))
+    ∙ columns-written (writesCodes t) (t .codes) (t .accounts) (t .numbers)
 
 -- codes that are left out are the accounts
-left : (c : tie.After-left-out-of) → let a = c .before .before .before .before .before .before .before .before .before .before .args in Unwritten (c .left-out-of .result) (a .accounts .now) (a .accounts .now) (a .codes .now) (a .accounts .now)
-left c = let a = c .before .before .before .before .before .before .before .before .before .before .args in
+left : (c : tie.After-left-out-of) → let a = at-head (c .before .before .before) .args in Unwritten (c .left-out-of .result) (a .accounts .now) (a .accounts .now) (a .codes .now) (a .accounts .now)
+left c = let a = at-head (c .before .before .before) .args in
     rw (c .left-out-of .ensures) (series-unwritten (not (c .before .before .before .before .before .same-numbers .result)) (a .codes .now) (a .accounts .now) (λ e. same-numbers _ _ (sym (c .before .before .before .before .before .same-numbers .ensures) ∙ not-false _ e)))
 
 -- what was measured is the head and the lines of the listing
-measure-is : (c : tie.After-measure) → let t = listing (c .before .before .before .before .before .before .before .before .before .before .before) in writingOf (c .measure .result) ≡ lengthOf (headAndLines (writeHead (writesCodes t) (t .form) (t .terms)) (columns (writesCodes t) t))
+measure-is : (c : tie.After-measure) → let t = listing (at-measure c) in writingOf (c .measure .result) ≡ lengthOf (headAndLines (writeHead (writesCodes t) (t .form) (t .terms)) (columns (writesCodes t) t))
 measure-is c = rw (head-is (c .before .before .before .before), columns-are (c .before)) at (c .measure .ensures)
 
-bytes-are : (c : tie.After-bytes) → let t = listing (c .before .before .before .before .before .before .before .before .before .before .before .before .before) in Measured (writeHead (writesCodes t) (t .form) (t .terms)) (columns (writesCodes t) t) (c .bytes .given .0 .0)
+bytes-are : (c : tie.After-bytes) → let t = listing (at-bytes c) in Measured (writeHead (writesCodes t) (t .form) (t .terms)) (columns (writesCodes t) t) (c .bytes .given .0 .0)
 bytes-are c = measured _ _ _ (sym (ap writingOf (c .bytes .given .1)) ∙ measure-is (c .before .before))
 
 same-numbers-requires : tie.Need-same-numbers-requires
@@ -78,28 +89,32 @@ enum-known-bytes : tie.Need-enum-known-bytes
 enum-known-bytes c = search needs
 
 returns : tie.Need-returns
-returns c = let s = c .before .before .before .before .before .before .before .before .before .before .before .before .before .before .before in text-long (listing s) _ (bytes-are (c .before .before)) (s .args .text .now) (c .if1 .taken)
+returns c = let s = at-bytes (c .before .before) in text-long (listing s) _ (bytes-are (c .before .before)) (s .args .text .now) (c .if1 .taken)
 
 returns-2 : tie.Need-returns-2
-returns-2 c = let s = c .before .before .before .before .before .before .before .before .before .before .before .before .before .before .before .before in text-short (listing s) _ (bytes-are (c .before .before .before)) (s .args .text .now) (c .before .if1 .left) (c .if2 .taken)
+returns-2 c = let s = at-bytes (c .before .before .before) in text-short (listing s) _ (bytes-are (c .before .before .before)) (s .args .text .now) (c .before .if1 .left) (c .if2 .taken)
 
 put-lines-requires : tie.Need-put-lines-requires
-put-lines-requires c κs = let a = c .before .before .before .before .before .before .before .before .before .before .before .before .before .before .before .before .before .args in
-    let l = left (c .before .before .before .before .before .before .before) in
-    let m = measured _ _ _ (sym (ap writingOf (c .before .before .before .before .bytes .given .1)) ∙ c .before .before .before .before .before .before .measure .ensures) in
+put-lines-requires c κs = let b = c .before .before .before .before in
+    let a = at-bytes b .args in
+    let l = left (b .before .before .before) in
+    let m = measured _ _ _ (sym (ap writingOf (b .bytes .given .1)) ∙ b .before .before .measure .ensures) in
     (l .few, (measured-columns _ _ (a .accounts .now) (a .accounts .now) (a .codes .now) (a .accounts .now) (a .numbers .now) _ l (m .is), omega (arith, m .bytes, c .before .if2 .left)))
 
 returns-3 : tie.Need-returns-3
 unfolding writeInto
-returns-3 c = let s = c .before .before .before .before .before .before .before .before .before .before .before .before .before .before in
+returns-3 c = let s = at-measure (c .before .before .before) in
     let t = listing s in
-    leaves-refused (writeHead (writesCodes t) (t .form) (t .terms)) (columns (writesCodes t) t) _ (s .args .text .now) _ (sym (ap writingOf (c .before .refusal .given .1)) ∙ measure-is (c .before .before .before))
+    columns-refused (writeHead (writesCodes t) (t .form) (t .terms)) (columns (writesCodes t) t) _ (s .args .text .now) _ (sym (ap writingOf (c .before .refusal .given .1)) ∙ measure-is (c .before .before .before))
 
 same-length : tie.Need-same-length
 same-length c = search needs
 
 returns-4 : tie.Need-returns-4
-returns-4 c = let s = c .before .before .before .before .before .before .before .before .before .before .before .before .before .before .before .before .before .before .before .before in text-put (listing s) _ (bytes-are (c .before .before .before .before .before .before .before)) (s .args .text .now) (c .before .before .before .before .before .if1 .left) (c .before .before .before .before .if2 .left) _ _ (rw (head-is (c .before .before .before .before .before .before .before .before .before .before .before .before .before), columns-are (c .before .before .before .before .before .before .before .before .before .before)) at (c .before .before .put-lines .ensures))
+returns-4 c = let b = c .before .before .before .before .before .before .before in
+    let s = at-bytes b in
+    text-put (listing s) _ (bytes-are b) (s .args .text .now) (c .before .before .before .before .before .if1 .left) (c .before .before .before .before .if2 .left) _ _
+    (rw (head-is (b .before .before .before .before .before .before), columns-are (b .before .before .before)) at (c .before .before .put-lines .ensures))
 
 pub write-spec : {M : Type 1} → statement M
 write-spec =

@@ -18,13 +18,17 @@ use Rattle.text_writing.proofs.write_table.Tie as tie
 abbrev columns : tie.Start → List (List ℕ)
 columns s = s .args .accounts .now ∷ s .args .counts .now ∷ []
 
+-- the start
+abbrev at-within : tie.After-both-within → tie.Start
+at-within c = c .before .before .before .before .before .before
+
 -- what was measured is the head and the lines, with the room
-within-is : (c : tie.After-both-within) → let s = c .before .before .before .before .before .before in writingOf (c .both-within .result) ≡ bothWithin (lengthOf (headAndLines (s .args .names .now) (columns s))) (value 0) (length (s .args .text .now))
+within-is : (c : tie.After-both-within) → let s = at-within c in writingOf (c .both-within .result) ≡ bothWithin (lengthOf (headAndLines (s .args .names .now) (columns s))) (value 0) (length (s .args .text .now))
 within-is c = rw (c .before .measure .ensures) at (c .both-within .ensures)
 
 -- the table fits
-fit : (c : tie.After-enum-told) → let s = c .before .before .before .before .before .before .before .before in Fitting (headAndLines (s .args .names .now) (columns s)) (value []) (headed (s .args .names .now) (columns s)) [] (length (s .args .text .now))
-fit c = let s = c .before .before .before .before .before .before .before .before in table-fits (s .args .names .now) (columns s) (s .args .text .now) _ (sym (ap writingOf (c .enum-told .given .1)) ∙ within-is (c .before .before))
+fit : (c : tie.After-enum-told) → let s = at-within (c .before .before) in Fitting (headAndLines (s .args .names .now) (columns s)) (value []) (headed (s .args .names .now) (columns s)) [] (length (s .args .text .now))
+fit c = let s = at-within (c .before .before) in table-fits (s .args .names .now) (columns s) (s .args .text .now) _ (sym (ap writingOf (c .enum-told .given .1)) ∙ within-is (c .before .before))
 
 measure-requires : tie.Need-measure-requires
 measure-requires c κs = search needs
@@ -39,20 +43,20 @@ enum-told : tie.Need-enum-told
 enum-told c = search needs
 
 put-table-requires : tie.Need-put-table-requires
-put-table-requires c κs = let a = c .before .before .before .before .before .before .before .before .before .args in
+put-table-requires c κs = let a = at-within (c .before .before .before) .args in
     let f = fit (c .before) in
     (measured-columns _ 3 (a .accounts .now) (a .accounts .now) (a .accounts .now) (a .accounts .now) (a .counts .now) _ (series-unwritten false (a .accounts .now) (a .accounts .now) (λ _. refl)) (f .first), omega (arith, f .fits))
 
 returns : tie.Need-returns
 unfolding tableInto
-returns c = let s = c .before .before .before .before .before .before .before .before .before in table-refused (s .args .names .now) (columns s) (s .args .text .now) _ (sym (ap writingOf (c .before .refusal .given .1)) ∙ within-is (c .before .before .before))
+returns c = let s = at-within (c .before .before .before) in table-refused (s .args .names .now) (columns s) (s .args .text .now) _ (sym (ap writingOf (c .before .refusal .given .1)) ∙ within-is (c .before .before .before))
 
 same-length : tie.Need-same-length
 same-length c = search needs
 
 returns-2 : tie.Need-returns-2
 unfolding tableInto
-returns-2 c = let s = c .before .before .before .before .before .before .before .before .before .before .before .before in table-put (s .args .names .now) (columns s) (s .args .text .now) _ _ (fit (c .before .before .before .before)) (c .before .before .put-table .ensures)
+returns-2 c = let s = at-within (c .before .before .before .before .before .before) in table-put (s .args .names .now) (columns s) (s .args .text .now) _ _ (fit (c .before .before .before .before)) (c .before .before .put-table .ensures)
 
 pub write-table-spec : {M : Type 1} → statement M
 write-table-spec =

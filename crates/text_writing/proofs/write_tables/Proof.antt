@@ -20,13 +20,17 @@ columns s = s .args .accounts .now ∷ s .args .counts .now ∷ []
 abbrev ranges : tie.Start → List (List ℕ)
 ranges s = s .args .accounts .now ∷ s .args .firsts .now ∷ s .args .lasts .now ∷ s .args .firsts2 .now ∷ s .args .lasts2 .now ∷ []
 
+-- the start
+abbrev at-within : tie.After-both-within → tie.Start
+at-within c = c .before .before .before .before .before .before .before .before .before .before .before .before
+
 -- what was measured is the two tables, with the room
-within-is : (c : tie.After-both-within) → let s = c .before .before .before .before .before .before .before .before .before .before .before .before in writingOf (c .both-within .result) ≡ bothWithin (lengthOf (headAndLines (s .args .names .now) (columns s))) (lengthOf (headAndLines (s .args .range-names .now) (ranges s))) (length (s .args .text .now))
+within-is : (c : tie.After-both-within) → let s = at-within c in writingOf (c .both-within .result) ≡ bothWithin (lengthOf (headAndLines (s .args .names .now) (columns s))) (lengthOf (headAndLines (s .args .range-names .now) (ranges s))) (length (s .args .text .now))
 within-is c = rw (c .before .before .measure .ensures, c .before .measure2 .ensures) at (c .both-within .ensures)
 
 -- the tables fit
-fit : (c : tie.After-enum-told) → let s = c .before .before .before .before .before .before .before .before .before .before .before .before .before .before in TablesFit (s .args .names .now) (columns s) (s .args .range-names .now) (ranges s) (s .args .text .now)
-fit c = let s = c .before .before .before .before .before .before .before .before .before .before .before .before .before .before in tables-fit (s .args .names .now) (columns s) (s .args .range-names .now) (ranges s) (s .args .text .now) _ (sym (ap writingOf (c .enum-told .given .1)) ∙ within-is (c .before .before))
+fit : (c : tie.After-enum-told) → let s = at-within (c .before .before) in TablesFit (s .args .names .now) (columns s) (s .args .range-names .now) (ranges s) (s .args .text .now)
+fit c = let s = at-within (c .before .before) in tables-fit (s .args .names .now) (columns s) (s .args .range-names .now) (ranges s) (s .args .text .now) _ (sym (ap writingOf (c .enum-told .given .1)) ∙ within-is (c .before .before))
 
 measure-requires : tie.Need-measure-requires
 measure-requires c κs = search needs
@@ -44,23 +48,26 @@ enum-told : tie.Need-enum-told
 enum-told c = search needs
 
 put-table-requires : tie.Need-put-table-requires
-put-table-requires c κs = let a = c .before .before .before .before .before .before .before .before .before .before .before .before .before .before .before .args in
+put-table-requires c κs = let a = at-within (c .before .before .before) .args in
     let f = fit (c .before) in
     (measured-columns _ 3 (a .accounts .now) (a .accounts .now) (a .accounts .now) (a .accounts .now) (a .counts .now) _ (series-unwritten false (a .accounts .now) (a .accounts .now) (λ _. refl)) (f .first), omega (arith, f .fits))
 
 put-lines-requires : tie.Need-put-lines-requires
-put-lines-requires c κs = let a = c .before .before .before .before .before .before .before .before .before .before .before .before .before .before .before .before .before .before .before .args in
-    let f = fit (c .before .before .before .before .before) in
+put-lines-requires c κs = let e = c .before .before .before .before .before in
+    let a = at-within (e .before .before) .args in
+    let f = fit e in
     (omega arith, (measured-columns _ 0 (a .accounts .now) (a .firsts .now) (a .lasts .now) (a .firsts2 .now) (a .lasts2 .now) _ (none-unwritten _ _ _ _) (f .second), omega (arith, f .fits, c .before .before .before .put-table .ensures .after, c .before .before .before .put-table .kept .0)))
 
 returns : tie.Need-returns
-returns c = let s = c .before .before .before .before .before .before .before .before .before .before .before .before .before .before .before in tables-refused (s .args .names .now) (columns s) (s .args .range-names .now) (ranges s) (s .args .text .now) _ (sym (ap writingOf (c .before .refusal .given .1)) ∙ within-is (c .before .before .before))
+returns c = let s = at-within (c .before .before .before) in tables-refused (s .args .names .now) (columns s) (s .args .range-names .now) (ranges s) (s .args .text .now) _ (sym (ap writingOf (c .before .refusal .given .1)) ∙ within-is (c .before .before .before))
 
 same-length : tie.Need-same-length
 same-length c = search needs
 
 returns-2 : tie.Need-returns-2
-returns-2 c = let s = c .before .before .before .before .before .before .before .before .before .before .before .before .before .before .before .before .before .before .before .before .before .before in tables-put (s .args .names .now) (columns s) (s .args .range-names .now) (ranges s) (s .args .text .now) _ _ _ _ (fit (c .before .before .before .before .before .before .before .before)) (c .before .before .before .before .before .before .put-table .ensures) (c .before .before .put-lines .ensures)
+returns-2 c = let e = c .before .before .before .before .before .before .before .before in
+    let s = at-within (e .before .before) in
+    tables-put (s .args .names .now) (columns s) (s .args .range-names .now) (ranges s) (s .args .text .now) _ _ _ _ (fit e) (c .before .before .before .before .before .before .put-table .ensures) (c .before .before .put-lines .ensures)
 
 pub write-tables-spec : {M : Type 1} → statement M
 write-tables-spec =

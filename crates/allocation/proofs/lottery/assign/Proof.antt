@@ -11,13 +11,18 @@ seek-requires : tie.Need-seek-requires
 seek-requires c κs = search needs
 
 assign-run-requires : tie.Need-assign-run-requires
-assign-run-requires c κs = lottery-ready _ _ _ _ _ _ (c .before .before .before .before .before .before .before .before .pre) (c .before .seek .ensures) (c .before .before .before .before .clear .ensures)
+assign-run-requires c κs =
+    let judged = c .before .before .before .before .before .before .before .before .pre .0 in
+    lottery-ready _ _ _ _ _ _ judged (c .before .seek .ensures) (c .before .before .before .before .clear .ensures)
 
 same-length : tie.Need-same-length
 same-length c = search needs
 
 returns : tie.Need-returns
-returns c = lottery-done _ _ _ _ _ _ (c .before .before .before .before .before .before .before .before .before .before .before .pre) (c .before .before .before .before .seek .ensures) (c .before .before .before .before .before .before .before .clear .ensures) _ (c .before .before .assign-run .ensures .1)
+returns c =
+    let judged = c .before .before .before .before .before .before .before .before .before .before .before .pre .0 in
+    let cleared = c .before .before .before .before .before .before .before .clear .ensures in
+    lottery-done _ _ _ _ _ _ judged (c .before .before .before .before .seek .ensures) cleared _ (c .before .before .assign-run .ensures .1)
 
 pub assign-spec : {M : Type 1} → statement M
 assign-spec =

@@ -1,11 +1,12 @@
 -- `assign_round` meets its contract: a walk over the part that the cursor stands in and, past the end of the list, one over the part from the top.
 use borrow.Author.Needs.{needs}
-use Prim.Native.Nat.{_+_}
+use Prim.Native.Nat.{_+_, _-_}
 use mathlib.Core.Path.{sym}
 use native.Mathlib.Omega.{arith}
+use lib.ListN.{length}
 use lib.Seq.{length-take-le}
-use Rattle.allocation.proofs.PartLaws.{room-top}
-use Rattle.allocation.proofs.RunLaws.{part-first, room-part, run-room, run-part, run-top}
+use Rattle.allocation.proofs.PartLaws.{small-part}
+use Rattle.allocation.proofs.RunLaws.{part-first, run-small, run-part, run-top}
 use Rattle.allocation.proofs.places.assign_round.Statement.{statement}
 use Rattle.allocation.proofs.places.assign_round.Tie as tie
 
@@ -35,8 +36,9 @@ part-hand-end-2 c = search needs
 
 hand-requires : tie.Need-hand-requires
 hand-requires c κs =
-    let asked = c .before .before .before .before .before .pre in
-    (room-part _ _ _ (asked .small) (omega (arith, asked .ahead .on .position)), part-first _ _ (asked .ahead .on))
+    let start = c .before .before .before .before .before in
+    let at = start .args .cursor .at in
+    (rw (start .pre .0 .lengths) (small-part _ _ at (length (start .args .shorts .now) - at) _ _ (start .pre .0) (omega arith)), part-first _ _ (start .pre .1 .on))
 
 sub-if1 : tie.Need-sub-if1
 sub-if1 c = search needs
@@ -48,13 +50,18 @@ same-length : tie.Need-same-length
 same-length c = search needs
 
 returns : tie.Need-returns
-returns c = let stop = c .before .before .before .before .hand in run-part _ _ _ _ _ _ (c .before .before .before .before .before .before .before .before .before .before .pre) (stop .ensures .0) (stop .ensures .1) (c .before .if1 .taken)
+returns c =
+    let asked = c .before .before .before .before .before .before .before .before .before .before .pre in
+    let stop = c .before .before .before .before .hand in
+    run-part _ _ _ _ _ _ (asked .0) (asked .1) (stop .ensures .0) (stop .ensures .1) (c .before .if1 .taken)
 
 add-end : tie.Need-add-end
 add-end c = search needs
 
 slice-aggregate-hand : tie.Need-slice-aggregate-hand
-slice-aggregate-hand c = sym (length-take-le _ _ (omega (arith, c .before .before .before .before .before .before .before .before .before .before .before .pre .ahead .on .position)))
+slice-aggregate-hand c =
+    let on = c .before .before .before .before .before .before .before .before .before .before .before .pre .1 .on in
+    sym (length-take-le _ _ (omega (arith, on .position)))
 
 slice-relend-prefix-hand : tie.Need-slice-relend-prefix-hand
 slice-relend-prefix-hand c = search needs
@@ -63,22 +70,24 @@ slice-aggregate-hand-2 : tie.Need-slice-aggregate-hand-2
 slice-aggregate-hand-2 c =
     let asked = c .before .before .before .before .before .before .before .before .before .before .before .before .pre in
     let stop = c .before .before .before .before .before .before .hand in
-    sym (length-take-le _ _ (omega (arith, asked .ahead .on .position, run-room _ _ _ _ _ _ asked (stop .ensures .0) (stop .ensures .1) .lengths)))
+    sym (length-take-le _ _ (omega (arith, asked .1 .on .position, run-small _ _ _ _ _ _ (asked .0) (asked .1) (stop .ensures .0) (stop .ensures .1) .lengths)))
 
 hand-requires-2 : tie.Need-hand-requires-2
 hand-requires-2 c κs =
     let start = c .before .before .before .before .before .before .before .before .before .before .before .before in
     let stop = c .before .before .before .before .before .before .hand in
-    (room-top _ _ (start .args .cursor .at + 1) (run-room _ _ _ _ _ _ (start .pre) (stop .ensures .0) (stop .ensures .1)), search needs)
+    (small-part _ _ 0 (start .args .cursor .at + 1) _ _ (run-small _ _ _ _ _ _ (start .pre .0) (start .pre .1) (stop .ensures .0) (stop .ensures .1)) (omega arith), search needs)
 
 same-length-2 : tie.Need-same-length-2
 same-length-2 c = search needs
 
 returns-2 : tie.Need-returns-2
 returns-2 c =
+    let asked = c .before .before .before .before .before .before .before .before .before .before .before .before .before .before .before .before .pre in
     let stop = c .before .before .before .before .before .before .before .before .before .before .hand in
+    let past = c .before .before .before .before .before .before .before .if1 .left in
     let top = c .before .before .before .hand2 in
-    run-top _ _ _ _ _ _ (c .before .before .before .before .before .before .before .before .before .before .before .before .before .before .before .before .pre) (stop .ensures .0) (stop .ensures .1) (c .before .before .before .before .before .before .before .if1 .left) _ _ (top .ensures .0) (top .ensures .1)
+    run-top _ _ _ _ _ _ (asked .0) (asked .1) (stop .ensures .0) (stop .ensures .1) past _ _ (top .ensures .0) (top .ensures .1)
 
 pub assign-round-spec : {M : Type 1} → statement M
 assign-round-spec =

@@ -24,8 +24,8 @@ slice-read-amounts c = search needs
 add-amounts : tie.Need-add-amounts
 add-amounts c =
     let start = c .before .before .before .before .before .before .before .before .before in
-    let on = start .pre .ahead .on in
-    omega (arith, c .before .before .if1 .taken, start .pre .small .amounts (start .args .cursor .at) (on .position), start .pre .small .list, total-term (start .args .shorts .now) (start .args .cursor .at) (on .position))
+    let on = start .pre .1 .on in
+    omega (arith, c .before .before .if1 .taken, start .pre .0 .amounts (start .args .cursor .at) (on .position), start .pre .0 .list, total-term (start .args .shorts .now) (start .args .cursor .at) (on .position))
 
 slice-write-amounts : tie.Need-slice-write-amounts
 slice-write-amounts c = search needs
@@ -33,8 +33,8 @@ slice-write-amounts c = search needs
 add-t14 : tie.Need-add-t14
 add-t14 c =
     let start = c .before .before .before .before .before .before .before .before .before .before .before in
-    let on = start .pre .ahead .on in
-    omega (arith, c .before .before .before .before .if1 .taken, on .contract, start .pre .small .list, total-term (start .args .shorts .now) (start .args .cursor .at) (on .position))
+    let on = start .pre .1 .on in
+    omega (arith, c .before .before .before .before .if1 .taken, on .contract, start .pre .0 .list, total-term (start .args .shorts .now) (start .args .cursor .at) (on .position))
 
 same-length : tie.Need-same-length
 same-length c = search needs
@@ -43,7 +43,7 @@ returns : tie.Need-returns
 returns c =
     let asked = c .before .before .before .before .before .before .before .before .before .before .before .pre in
     let inside = c .before .before .before .before .if1 .taken in
-    (stands-here _ _ _ (asked .ahead .on) inside, assigned-here _ _ _ (asked .ahead .on) inside _ (asked .small) (asked .ahead .most))
+    (stands-here _ _ _ (asked .1 .on) inside, assigned-here _ _ _ (asked .1 .on) inside _ (asked .0 .lengths) (asked .1 .most))
 
 assign-round-requires : tie.Need-assign-round-requires
 assign-round-requires c κs = search needs

@@ -4,6 +4,7 @@ use Prim.Native.Nat.{_+_, _-_, _≤_, _<_}
 use native.Mathlib.Nat.{le-refl}
 use native.Mathlib.Omega.{arith}
 use lib.ListN.{length, length-set}
+use Rattle.series.proofs.SumLaws.{total-term}
 use Rattle.allocation.proofs.StretchLaws.{Walk, walk-start, walk-next, walk-inside, walk-past, Growing, growing-start, growing-next, grown-inside, grown-past}
 use Rattle.allocation.proofs.places.hand.Statement.{statement}
 use Rattle.allocation.proofs.places.hand.Tie as tie
@@ -38,7 +39,9 @@ slice-read-amounts c =
 add-amounts : tie.Need-add-amounts Inv-loop μ-loop
 add-amounts c =
     let seen = c .before .before .before .before in
-    omega (arith, seen .loop .inv .2 .rest (seen .loop .at) (le-refl (seen .loop .at)), seen .before .pre .0 .room (seen .loop .at) (c .before .before .before .loop-test .taken))
+    let h = c .before .before .before .loop-test .taken in
+    let small = seen .before .pre .0 in
+    omega (arith, seen .loop .inv .2 .rest (seen .loop .at) (le-refl (seen .loop .at)), small .amounts (seen .loop .at) h, small .list, total-term (seen .before .args .shorts .now) (seen .loop .at) h)
 
 slice-write-amounts : tie.Need-slice-write-amounts Inv-loop μ-loop
 slice-write-amounts c =
@@ -70,7 +73,9 @@ slice-read-amounts-2 c =
 add-amounts-2 : tie.Need-add-amounts-2 Inv-loop μ-loop
 add-amounts-2 c =
     let seen = c .before .before .before .before in
-    omega (arith, seen .loop .inv .2 .rest (seen .loop .at) (le-refl (seen .loop .at)), seen .before .pre .0 .room (seen .loop .at) (c .before .before .before .loop-test .taken))
+    let h = c .before .before .before .loop-test .taken in
+    let small = seen .before .pre .0 in
+    omega (arith, seen .loop .inv .2 .rest (seen .loop .at) (le-refl (seen .loop .at)), small .amounts (seen .loop .at) h, small .list, total-term (seen .before .args .shorts .now) (seen .loop .at) h)
 
 slice-write-amounts-2 : tie.Need-slice-write-amounts-2 Inv-loop μ-loop
 slice-write-amounts-2 c =

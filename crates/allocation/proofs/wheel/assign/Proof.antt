@@ -18,7 +18,7 @@ returns c =
     let start = c .before .before .before .before .before .before .before .before .before in
     let same = c .before .before .before .before .if1 .taken in (
       used-whole _ _ _ same,
-      c .before .before .copy .ensures ∙ sym (wheel-whole _ _ _ _ (same ∙ start .pre .sum)),
+      c .before .before .copy .ensures ∙ sym (wheel-whole _ _ _ _ (same ∙ start .pre .0 .sum)),
     )
 
 clear-requires : tie.Need-clear-requires
@@ -31,33 +31,39 @@ last-block-requires : tie.Need-last-block-requires
 last-block-requires c κs = search needs
 
 seek-requires : tie.Need-seek-requires
-seek-requires c κs = let call = c .before .before .before .before .before .before .before .before .before .before .before .pre in rw (← call .sum) (call .start (c .before .before .before .before .before .before .if1 .left))
+seek-requires c κs =
+    let asked = c .before .before .before .before .before .before .before .before .before .before .before .pre in
+    rw (← asked .0 .sum) (asked .1 .1 (c .before .before .before .before .before .before .if1 .left))
 
 interval-requires : tie.Need-interval-requires
 interval-requires c κs =
-    let call = c .before .before .before .before .before .before .before .before .before .before .before .before .pre in
-    (omega (arith, call .sized .list, call .sum), whole-blocks _ _ _ (call .increment) (c .before .before .block-count .ensures) .0)
+    let asked = c .before .before .before .before .before .before .before .before .before .before .before .before .pre in
+    (asked .0 .small, whole-blocks _ _ _ (asked .1 .0) (asked .0 .some) (c .before .before .block-count .ensures) .0)
 
 zero-requires : tie.Need-zero-requires
 zero-requires c κs = search needs
 
 assign-blocks-requires : tie.Need-assign-blocks-requires
 assign-blocks-requires c κs =
-    let call = c .before .before .before .before .before .before .before .before .before .before .before .before .before .before .before .pre in
+    let asked = c .before .before .before .before .before .before .before .before .before .before .before .before .before .before .before .pre in
+    let differ = c .before .before .before .before .before .before .before .before .before .before .if1 .left in
+    let cleared = c .before .before .before .before .before .before .before .before .clear .ensures in
     let interval = c .before .before .interval .ensures in
-    blocks-fit _ _ _ _ _ _ _ _ _ _ call (omega (arith, call .most, c .before .before .before .before .before .before .before .before .before .before .if1 .left)) (c .before .before .before .seek .ensures) (c .before .before .before .before .before .before .before .before .clear .ensures) (c .before .before .before .before .before .block-count .ensures) (c .before .before .before .before .last-block .ensures) (interval .0) (interval .1) (c .before .zero .ensures)
+    blocks-fit _ _ _ _ _ _ _ _ _ _ (asked .0) (asked .1 .0) (omega (arith, asked .0 .most)) (c .before .before .before .seek .ensures) cleared (c .before .before .before .before .before .block-count .ensures) (c .before .before .before .before .last-block .ensures) (interval .0) (interval .1) (c .before .zero .ensures)
 
 same-length-2 : tie.Need-same-length-2
 same-length-2 c = search needs
 
 returns-2 : tie.Need-returns-2
 returns-2 c =
-    let call = c .before .before .before .before .before .before .before .before .before .before .before .before .before .before .before .before .before .before .pre in
+    let asked = c .before .before .before .before .before .before .before .before .before .before .before .before .before .before .before .before .before .before .pre in
     let differ = c .before .before .before .before .before .before .before .before .before .before .before .before .before .if1 .left in
     let count = c .before .before .before .before .before .before .before .before .block-count .ensures in
+    let cleared = c .before .before .before .before .before .before .before .before .before .before .before .clear .ensures in
+    let last = c .before .before .before .before .before .before .before .last-block .ensures in
     let interval = c .before .before .before .before .before .interval .ensures in (
-      count ∙ used-part _ _ _ (omega (arith, call .most)),
-      blocks-give _ _ _ _ _ _ _ _ _ _ call (omega (arith, call .most)) (c .before .before .before .before .before .before .seek .ensures) (c .before .before .before .before .before .before .before .before .before .before .before .clear .ensures) count (c .before .before .before .before .before .before .before .last-block .ensures) (interval .0) (interval .1) (c .before .before .before .before .zero .ensures) _ (c .before .before .assign-blocks .ensures),
+      count ∙ used-part _ _ _ (omega (arith, asked .0 .most)),
+      blocks-give _ _ _ _ _ _ _ _ _ _ (asked .0) (asked .1 .0) (omega (arith, asked .0 .most)) (c .before .before .before .before .before .before .seek .ensures) cleared count last (interval .0) (interval .1) (c .before .before .before .before .zero .ensures) _ (c .before .before .assign-blocks .ensures),
     )
 
 pub assign-spec : {M : Type 1} → statement M

@@ -2,6 +2,7 @@
 use Prim.Native.Nat.{_-_}
 use mathlib.Core.Path.{_∙_}
 use native.Mathlib.Omega.{arith}
+use Rattle.series.specs.Series.{MOST_CONTRACTS}
 use Rattle.allocation.specs.Stretch.{Small}
 use Rattle.allocation.specs.Blocks.{marksFrom}
 use Rattle.allocation.proofs.BlockLaws.{AtBlock, block-first, block-small, block-next, block-last}
@@ -19,16 +20,13 @@ loop-holds : tie.Need-loop-holds Inv-loop μ-loop
 loop-holds c = block-first _ _ _ _ _ _ (c .before .before .pre)
 
 -- the amounts are small at the head of the loop
-small-at : (c : tie.At-loop Inv-loop μ-loop) → Small (c .before .before .before .args .shorts .now) (c .loop .amounts)
+small-at : (c : tie.At-loop Inv-loop μ-loop) → Small (c .before .before .before .args .shorts .now) (c .loop .amounts) MOST_CONTRACTS
 small-at c = block-small _ _ _ _ _ _ _ _ _ (c .before .before .before .pre) (c .loop .inv)
 
 assign-run-requires : tie.Need-assign-run-requires Inv-loop μ-loop
 assign-run-requires c κs =
     let seen = c .before .before .before in
-    record {
-      small = small-at seen;
-      ahead = record { on = seen .loop .inv .ready .on; most = seen .before .before .before .pre .whole (omega (arith, seen .loop .inv .first, c .before .before .loop-test .taken)) };
-    }
+    (small-at seen, record { on = seen .loop .inv .ready .on; most = seen .before .before .before .pre .whole (omega (arith, seen .loop .inv .first, c .before .before .loop-test .taken)) })
 
 skip-requires : tie.Need-skip-requires Inv-loop μ-loop
 skip-requires c κs =
@@ -50,7 +48,7 @@ loop-again c =
 assign-run-requires-2 : tie.Need-assign-run-requires-2 Inv-loop μ-loop
 assign-run-requires-2 c κs =
     let seen = c .before .before .before in
-    record { small = small-at seen; ahead = record { on = seen .loop .inv .ready .on; most = seen .before .before .before .pre .end } }
+    (small-at seen, record { on = seen .loop .inv .ready .on; most = seen .before .before .before .pre .end })
 
 same-length : tie.Need-same-length Inv-loop μ-loop
 same-length c =

@@ -6,13 +6,13 @@ use Rattle.allocation.proofs.wheel.last_block.Statement.{statement}
 use Rattle.allocation.proofs.wheel.last_block.Tie as tie
 
 sub-t4 : tie.Need-sub-t4
-sub-t4 c = whole-blocks _ _ _ (c .pre .0) (c .pre .1) .0
+sub-t4 c = let asked = c .pre in whole-blocks _ _ _ (asked .0) (asked .1 .0) (asked .1 .1) .0
 
 mul-t5 : tie.Need-mul-t5
-mul-t5 c = omega (arith, whole-blocks _ _ _ (c .before .pre .0) (c .before .pre .1) .1, c .before .pre .0 .exercised-most)
+mul-t5 c = let asked = c .before .pre in omega (arith, whole-blocks _ _ _ (asked .0) (asked .1 .0) (asked .1 .1) .1)
 
 sub-t6 : tie.Need-sub-t6
-sub-t6 c = omega (arith, whole-blocks _ _ _ (c .before .before .pre .0) (c .before .before .pre .1) .1)
+sub-t6 c = let asked = c .before .before .pre in omega (arith, whole-blocks _ _ _ (asked .0) (asked .1 .0) (asked .1 .1) .1)
 
 returns : tie.Need-returns
 returns c = search needs

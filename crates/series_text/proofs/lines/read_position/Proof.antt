@@ -21,7 +21,10 @@ returns c = let read = c .before .before in
     let start = read .before .before .before .before .before in
     let a = start .args in
     rw (read .before .before .if1 .taken)
-    (position-read true (a .text .now) (drop (a .at) (a .text .now)) (read .read-row .last .1 .1 .0) (read .read-row .result) (rw (start .pre) at (read .read-row .ensures)))
+    (record {
+      means = position-read true (a .text .now) (drop (a .at) (a .text .now)) (read .read-row .last .1 .1 .0) (read .read-row .result) (rw (start .pre) at (read .read-row .ensures .means));
+      onward = read .read-row .ensures .onward;
+    })
 
 sub-read-row : tie.Need-sub-read-row
 sub-read-row c = search needs
@@ -50,8 +53,8 @@ returns-2 c = let read = c .before .before .before in
     let two : length (a .row .now) - 1 ≡ 2 = omega arith in
     let rest : length (take (length (a .row .now) - 1) (drop 1 (a .row .now))) ≡ 2 = length-take-le _ (drop 1 (a .row .now)) (omega (arith, length-drop 1 (a .row .now))) ∙ two in
     let row = read .read-row2 .last .1 .1 .0 in
-    let means = position-read false (a .text .now) (drop (a .at) (a .text .now)) row (read .read-row2 .result) (rw rest at (read .read-row2 .ensures)) in
-    rw (read .before .before .if1 .left) (rw (← code-put (a .row .now) row (omega arith)) at means)
+    let means = position-read false (a .text .now) (drop (a .at) (a .text .now)) row (read .read-row2 .result) (rw rest at (read .read-row2 .ensures .means)) in
+    rw (read .before .before .if1 .left) (record { means = rw (← code-put (a .row .now) row (omega arith)) at means; onward = read .read-row2 .ensures .onward })
 
 pub read-position-spec : {M : Type 1} → statement M
 read-position-spec =

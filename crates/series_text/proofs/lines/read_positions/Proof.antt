@@ -37,7 +37,7 @@ same-length-3 : tie.Need-same-length-3 Inv-loop μ-loop
 same-length-3 c = omega arith
 
 returns : tie.Need-returns Inv-loop μ-loop
-returns c = (λ f t. positions-refused _ f t _ (rows-over (c .before .before .loop .inv .5) (omega arith) (omega arith)), tt)
+returns c = record { means = λ f t. positions-refused _ f t _ (rows-over (c .before .before .loop .inv .5) (omega arith) (omega arith)); within = tt }
 
 slice-aggregate-read-position : tie.Need-slice-aggregate-read-position Inv-loop μ-loop
 slice-aggregate-read-position c = omega arith
@@ -61,11 +61,10 @@ same-length-6 : tie.Need-same-length-6 Inv-loop μ-loop
 same-length-6 c = omega arith
 
 returns-2 : tie.Need-returns-2 Inv-loop μ-loop
-returns-2 c = (
-  λ f t. positions-refused _ f t _
-      (rows-malformed (c .before .before .before .before .before .before .before .loop .inv .5) (omega arith) (omega arith) (ap (rowMeans _ _) (sym (c .enum-told .given .1)) ∙ c .before .before .before .read-position .ensures)),
-  tt,
-)
+returns-2 c =
+    let so = c .before .before .before .before .before .before .before .loop .inv .5 in
+    let bad = ap (rowMeans _ _) (sym (c .enum-told .given .1)) ∙ c .before .before .before .read-position .ensures .means in
+    record { means = λ f t. positions-refused _ f t _ (rows-malformed so (omega arith) (omega arith) bad); within = tt }
 
 array-read-codes : tie.Need-array-read-codes Inv-loop μ-loop
 array-read-codes c = search needs
@@ -105,7 +104,7 @@ loop-again c = let l = c .before .before .before .before .before .before .before
     let read = c .before .before .before .before .read-position in
     let row = read .last .1 .1 .1 .0 in
     let three : length row ≡ 3 = omega (arith, read .kept .1 .1 .1 .0) in
-    let more = rows-more (l .inv .5) (omega arith) (omega arith) {next = c .before .next .given .0 .0} (ap (rowMeans _ _) (sym (c .before .next .given .1)) ∙ read .ensures) in (
+    let more = rows-more (l .inv .5) (omega arith) (omega arith) {next = c .before .next .given .0 .0} (ap (rowMeans _ _) (sym (c .before .next .given .1)) ∙ read .ensures .means) in (
       omega arith,
       length-set (l .codes) (l .n) _ ∙ l .inv .1,
       length-set (l .accounts) (l .n) _ ∙ l .inv .2,
@@ -128,7 +127,7 @@ returns-3 c = let l = c .before .loop in
     let n = length-take-le (l .n) (l .codes) (omega arith) in
     let accounts = length-take-le (l .n) (l .accounts) (omega arith) in
     let numbers = length-take-le (l .n) (l .numbers) (omega arith) in
-    (λ f t. positions-all _ f t _ (accounts ∙ sym n) (numbers ∙ sym n) (rows-end (l .inv .5) (omega arith)), l .inv .0)
+    record { means = λ f t. positions-all _ f t _ (accounts ∙ sym n) (numbers ∙ sym n) (rows-end (l .inv .5) (omega arith)); within = l .inv .0 }
 
 pub read-positions-spec : {M : Type 1} → statement M
 read-positions-spec =

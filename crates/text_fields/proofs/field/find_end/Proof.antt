@@ -29,12 +29,12 @@ returns : tie.Need-returns Inv-loop μ-loop
 returns c = let a = c .before .before .before .before .before .before .before .args in
     let l = c .before .before .before .before .before .loop in
     let e : ends (a .end) ≡ true = ap ends (sym (c .if2 .taken)) ∙ sym (c .before .before .ends-field .ensures) ∙ c .before .if1 .taken in
-    (sym (read-end (a .end) (a .text .now) (a .at) (l .i) (omega arith) (c .if2 .taken) e (l .inv .1)), (omega arith, omega arith))
+    record { means = sym (read-end (a .end) (a .text .now) (a .at) (l .i) (omega arith) (c .if2 .taken) e (l .inv .1)); within = (omega arith, omega arith) }
 
 returns-2 : tie.Need-returns-2 Inv-loop μ-loop
 returns-2 c = let a = c .before .before .before .before .before .before .before .args in
     let l = c .before .before .before .before .before .loop in
-    (sym (read-other (a .end) (a .text .now) (a .at) (l .i) (omega arith) (sym (c .before .before .ends-field .ensures) ∙ c .before .if1 .taken) (ne-eqb _ _ (c .if2 .left)) (l .inv .1)), tt)
+    record { means = sym (read-other (a .end) (a .text .now) (a .at) (l .i) (omega arith) (sym (c .before .before .ends-field .ensures) ∙ c .before .if1 .taken) (ne-eqb _ _ (c .if2 .left)) (l .inv .1)); within = tt }
 
 add-i : tie.Need-add-i Inv-loop μ-loop
 add-i c = omega arith
@@ -50,7 +50,7 @@ loop-again c = let a = c .before .before .before .before .before .before .args i
 returns-3 : tie.Need-returns-3 Inv-loop μ-loop
 returns-3 c = let a = c .before .before .before .args in
     let l = c .before .loop in
-    (sym (read-none (a .end) (a .text .now) (a .at) (l .i) (omega arith) (l .inv .1)), tt)
+    record { means = sym (read-none (a .end) (a .text .now) (a .at) (l .i) (omega arith) (l .inv .1)); within = tt }
 
 pub find-end-spec : {M : Type 1} → statement M
 find-end-spec =

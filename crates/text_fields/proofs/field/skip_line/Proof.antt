@@ -1,9 +1,8 @@
 -- `field::skip_line` meets its contract. The loop's invariant: what is left of the line stands against the text at the cursor.
 use Prim.Native.Nat.{_≤_, _-_}
-use mathlib.Core.Path.{refl, sym}
 use native.Mathlib.Omega.{arith}
 use lib.ListN.{length}
-use Rattle.text_fields.proofs.FieldLaws.{ComparedTo, line-none, line-other, line-more, line-end}
+use Rattle.text_fields.proofs.FieldLaws.{ComparedTo, line-start, line-none, line-other, line-more, line-end}
 use Rattle.text_fields.proofs.field.skip_line.Statement.{statement}
 use Rattle.text_fields.proofs.field.skip_line.Tie as tie
 
@@ -14,12 +13,12 @@ abbrev μ-loop : tie.MeasureT-loop
 μ-loop text at line i₀ j₀ i j = length line - i
 
 loop-holds : tie.Need-loop-holds Inv-loop μ-loop
-loop-holds c = (omega arith, refl)
+loop-holds c = let a = c .args in (omega arith, line-start (a .line .now) (a .text .now) (a .at))
 
 returns : tie.Need-returns Inv-loop μ-loop
 returns c = let a = c .before .before .before .args in
     let l = c .before .before .loop in
-    sym (line-none (a .line .now) (a .text .now) (a .at) (l .i) (l .j) (omega arith) (omega arith) (l .inv .1))
+    line-none (a .line .now) (a .text .now) (a .at) (l .i) (l .j) (l .inv .1) (omega arith) (omega arith)
 
 shared-slice-read-if2 : tie.Need-shared-slice-read-if2 Inv-loop μ-loop
 shared-slice-read-if2 c = omega arith
@@ -30,7 +29,7 @@ shared-slice-read-if2-2 c = omega arith
 returns-2 : tie.Need-returns-2 Inv-loop μ-loop
 returns-2 c = let a = c .before .before .before .before .before .before .args in
     let l = c .before .before .before .before .before .loop in
-    sym (line-other (a .line .now) (a .text .now) (a .at) (l .i) (l .j) (omega arith) (omega arith) (c .if2 .taken) (l .inv .1))
+    line-other (a .line .now) (a .text .now) (a .at) (l .i) (l .j) (l .inv .1) (omega arith) (omega arith) (c .if2 .taken)
 
 add-i : tie.Need-add-i Inv-loop μ-loop
 add-i c = omega arith
@@ -44,12 +43,12 @@ loop-less c = omega arith
 loop-again : tie.Need-loop-again Inv-loop μ-loop
 loop-again c = let a = c .before .before .before .before .before .before .args in
     let l = c .before .before .before .before .before .loop in
-    (omega arith, line-more (a .line .now) (a .text .now) (a .at) (l .i) (l .j) (omega arith) (omega arith) (c .if2 .left) (l .inv .1))
+    (omega arith, line-more (a .line .now) (a .text .now) (a .at) (l .i) (l .j) (l .inv .1) (omega arith) (omega arith) (c .if2 .left))
 
 returns-3 : tie.Need-returns-3 Inv-loop μ-loop
 returns-3 c = let a = c .before .before .args in
     let l = c .before .loop in
-    sym (line-end (a .line .now) (a .text .now) (a .at) (l .i) (l .j) (omega arith) (l .inv .1))
+    line-end (a .line .now) (a .text .now) (a .at) (l .i) (l .j) (l .inv .1) (omega arith)
 
 pub skip-line-spec : {M : Type 1} → statement M
 skip-line-spec =

@@ -27,19 +27,19 @@ is-digit-requires c κs = tt
 returns : tie.Need-returns Inv-loop μ-loop
 returns c = let a = c .before .before .before .before .before .before .before .args in
     let l = c .before .before .before .before .before .loop in
-    sym (number-other (a .end) (a .text .now) (a .at) (l .i) (l .n) (l .inv) (omega arith) (sym (c .before .before .is-digit .ensures) ∙ not-true _ (c .before .if1 .taken)) (c .if2 .taken))
+    number-other (a .end) (a .text .now) (a .at) (l .i) (l .n) (l .inv) (omega arith) (sym (c .before .before .is-digit .ensures) ∙ not-true _ (c .before .if1 .taken)) (c .if2 .taken)
 
 returns-2 : tie.Need-returns-2 Inv-loop μ-loop
 returns-2 c = let k = c .before .before .before .before .before .before .before .before in
     let a = k .args in
     let l = c .before .before .before .before .before .before .loop in
-    sym (number-empty (a .end) (a .text .now) (a .at) (l .i) (l .n) (l .inv) (omega arith) (c .before .if2 .left) (k .pre) (c .if3 .taken))
+    number-empty (a .end) (a .text .now) (a .at) (l .i) (l .n) (l .inv) (omega arith) (c .before .if2 .left) (k .pre) (c .if3 .taken)
 
 returns-3 : tie.Need-returns-3 Inv-loop μ-loop
 returns-3 c = let k = c .before .before .before .before .before .before .before .before .before in
     let a = k .args in
     let l = c .before .before .before .before .before .before .before .loop in
-    sym (number-large (a .end) (a .text .now) (a .at) (l .i) (l .n) (l .inv) (omega arith) (c .before .before .if2 .left) (k .pre) (c .if4 .taken))
+    number-large (a .end) (a .text .now) (a .at) (l .i) (l .n) (l .inv) (omega arith) (c .before .before .if2 .left) (k .pre) (c .if4 .taken)
 
 cast-t13 : tie.Need-cast-t13 Inv-loop μ-loop
 cast-t13 c = omega arith
@@ -51,7 +51,7 @@ returns-4 : tie.Need-returns-4 Inv-loop μ-loop
 returns-4 c = let k = c .before .before .before .before .before .before .before .before .before in
     let a = k .args in
     let l = c .before .before .before .before .before .before .before .loop in
-    sym (number-end (a .end) (a .text .now) (a .at) (l .i) (l .n) (l .inv) (omega arith) (c .before .before .if2 .left) (k .pre) (c .before .if3 .left) (c .if4 .left))
+    number-end (a .end) (a .text .now) (a .at) (l .i) (l .n) (l .inv) (omega arith) (c .before .before .if2 .left) (k .pre) (c .before .if3 .left) (c .if4 .left)
 
 sub-if5 : tie.Need-sub-if5 Inv-loop μ-loop
 sub-if5 c = omega (arith, c .before .before .before .before .loop .inv .within)
@@ -59,7 +59,7 @@ sub-if5 c = omega (arith, c .before .before .before .before .loop .inv .within)
 returns-5 : tie.Need-returns-5 Inv-loop μ-loop
 returns-5 c = let a = c .before .before .before .before .before .before .before .args in
     let l = c .before .before .before .before .before .loop in
-    sym (number-long (a .end) (a .text .now) (a .at) (l .i) (l .n) (l .inv) (omega arith) (sym (c .before .before .is-digit .ensures) ∙ not-false _ (c .before .if1 .left)) (c .if5 .taken))
+    number-long (a .end) (a .text .now) (a .at) (l .i) (l .n) (l .inv) (omega arith) (sym (c .before .before .is-digit .ensures) ∙ not-false _ (c .before .if1 .left)) (c .if5 .taken)
 
 mul-n : tie.Need-mul-n Inv-loop μ-loop
 mul-n c = let a = c .before .before .before .before .before .before .before .args in
@@ -91,7 +91,7 @@ loop-again c = let a = c .before .before .before .before .before .before .before
 returns-6 : tie.Need-returns-6 Inv-loop μ-loop
 returns-6 c = let a = c .before .before .before .args in
     let l = c .before .loop in
-    sym (number-none (a .end) (a .text .now) (a .at) (l .i) (l .n) (l .inv) (omega arith))
+    number-none (a .end) (a .text .now) (a .at) (l .i) (l .n) (l .inv) (omega arith)
 
 pub read-number-spec : {M : Type 1} → statement M
 read-number-spec =

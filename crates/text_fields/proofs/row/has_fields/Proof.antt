@@ -1,11 +1,10 @@
 -- `row::has_fields` meets its contract. The loop's invariant: the fields are there where those that are left are there at the cursor.
 use Prim.Native.Nat.{_-_}
-use mathlib.Core.Path.{_≡_, refl, sym, ap, _∙_}
+use mathlib.Core.Path.{refl, sym, ap, _∙_}
 use native.Mathlib.Omega.{arith}
 use borrow.Author.Needs.{needs}
-use lib.ListN.{drop}
-use Rattle.text_rules.specs.Fields.{fieldBy, endBefore}
-use Rattle.text_fields.specs.Parts.{foundMeans}
+use Rattle.text_rules.specs.Fields.{COMMA, NEWLINE, endBefore}
+use Rattle.text_fields.specs.Parts.{foundMeans, EndFound}
 use Rattle.text_fields.proofs.RowLaws.{FoundAt, found-at, FieldsTo, fields-missing, fields-more, fields-all}
 use Rattle.text_fields.proofs.row.has_fields.Statement.{statement}
 use Rattle.text_fields.proofs.row.has_fields.Tie as tie
@@ -19,13 +18,13 @@ abbrev μ-loop : tie.MeasureT-loop
 -- what `find_end` answered, in the terms of the definition
 looked : (c : tie.After-find-end Inv-loop μ-loop) → let a = c .before .before .before .before .before .args in
     let l = c .before .before .before .loop in
-    foundMeans (a .text .now) (l .next) (c .find-end .result) ≡ fieldBy (endBefore (l .left - 1)) (drop (l .next) (a .text .now))
-looked c = rw (← c .before .end-before .ensures) (c .find-end .ensures .0)
+    EndFound (endBefore COMMA NEWLINE (l .left - 1)) (a .text .now) (l .next) (c .find-end .result)
+looked c = rw (← c .before .end-before .ensures) (c .find-end .ensures)
 
 found : (c : tie.After-known-told Inv-loop μ-loop) → let a = c .before .before .before .before .before .before .before .before .args in
     let l = c .before .before .before .before .before .before .loop in
-    FoundAt (a .text .now) (l .next) (endBefore (l .left - 1)) (c .before .end .given .0 .0)
-found c = found-at _ _ _ _ _ (c .before .end .given .1) (looked (c .before .before .before)) (c .before .before .before .find-end .ensures .1)
+    FoundAt (a .text .now) (l .next) (endBefore COMMA NEWLINE (l .left - 1)) (c .before .end .given .0 .0)
+found c = found-at _ _ _ _ _ (c .before .end .given .1) (looked (c .before .before .before))
 
 loop-holds : tie.Need-loop-holds Inv-loop μ-loop
 loop-holds c = record { found = refl }
@@ -47,7 +46,7 @@ enum-told c = search needs
 
 returns : tie.Need-returns Inv-loop μ-loop
 returns c = let l = c .before .before .before .before .before .loop in
-    fields-missing (l .inv) {j = l .left - 1} (omega arith) (ap (foundMeans _ _) (sym (c .enum-told .given .1)) ∙ looked (c .before .before))
+    fields-missing (l .inv) {j = l .left - 1} (omega arith) (ap (foundMeans _ _) (sym (c .enum-told .given .1)) ∙ looked (c .before .before) .means)
 
 add-next : tie.Need-add-next Inv-loop μ-loop
 add-next c = omega (arith, found c .within)

@@ -2,7 +2,7 @@
 use Prim.Native.Nat.{_+_, _-_, _≤_, _<_}
 use native.Mathlib.Omega.{arith}
 use lib.ListN.{length, getD, drop}
-use Rattle.text_rules.specs.Rows.{writeRow}
+use Rattle.text_rules.specs.Rows.{writeParted}
 use Rattle.text_rules.proofs.LengthLaws.{length-number}
 use Rattle.text_writing.proofs.PutLaws.{Left, put-start, put-more, put-end}
 use Rattle.text_rules.proofs.LengthLaws.{numberAt, row-next, row-next-length, row-done}
@@ -10,13 +10,13 @@ use Rattle.text_writing.proofs.row.put_row.Statement.{statement}
 use Rattle.text_writing.proofs.row.put_row.Tie as tie
 
 abbrev Inv-loop : tie.InvT-loop
-Inv-loop text₀ at row next₀ i₀ text next i = (i ≤ length row) × Left (writeRow row) text₀ at (writeRow (drop i row)) text next
+Inv-loop text₀ at row part end next₀ i₀ text next i = (i ≤ length row) × Left (writeParted part end row) text₀ at (writeParted part end (drop i row)) text next
 
 abbrev μ-loop : tie.MeasureT-loop
-μ-loop text₀ at row next₀ i₀ text next i = length row - i
+μ-loop text₀ at row part end next₀ i₀ text next i = length row - i
 
 loop-holds : tie.Need-loop-holds Inv-loop μ-loop
-loop-holds c = let a = c .before .before .args in (omega arith, put-start (writeRow (a .row .now)) (a .text .now) (a .at))
+loop-holds c = let a = c .before .before .args in (omega arith, put-start (writeParted (a .part) (a .end) (a .row .now)) (a .text .now) (a .at))
 
 mul-put-number : tie.Need-mul-put-number Inv-loop μ-loop
 mul-put-number c = omega arith
@@ -34,9 +34,10 @@ end-before-requires : tie.Need-end-before-requires Inv-loop μ-loop
 end-before-requires c κs = tt
 
 put-number-requires : tie.Need-put-number-requires Inv-loop μ-loop
-put-number-requires c κs = let row = c .before .before .before .before .before .before .before .args .row .now in
+put-number-requires c κs = let a = c .before .before .before .before .before .before .before .args in
+    let row = a .row .now in
     let l = c .before .before .before .before .loop in
-    omega (arith, l .inv .1 .after, l .inv .1 .long, row-next-length row (l .i) (omega arith), length-number (getD row (l .i) 0) (c .end-before .result), c .before .before .before .before .before .before .before .pre)
+    omega (arith, l .inv .1 .after, l .inv .1 .long, row-next-length (a .part) (a .end) row (l .i) (omega arith), length-number (getD row (l .i) 0) (c .end-before .result), c .before .before .before .before .before .before .before .pre)
 
 add-i : tie.Need-add-i Inv-loop μ-loop
 add-i c = omega arith
@@ -45,11 +46,15 @@ loop-less : tie.Need-loop-less Inv-loop μ-loop
 loop-less c = omega arith
 
 loop-again : tie.Need-loop-again Inv-loop μ-loop
-loop-again c = let a = c .before .before .before .before .before .before .before .before .before .before .args in
+loop-again c = let at = c .before .before .before .before .before .before .before in
+    let start = at .before .before .before in
+    let a = start .args in
     let row = a .row .now in
-    let l = c .before .before .before .before .before .before .before .loop in
+    let l = at .loop in
     let lt : l .i < length row = omega arith in
-    (omega arith, put-more (writeRow row) (a .text .now) (a .at) (numberAt row (l .i)) (writeRow (drop (l .i + 1) row)) (l .text) (l .next) _ _ (c .before .before .before .before .before .before .before .before .before .before .pre) (rw (row-next row (l .i) lt) at (l .inv .1)) (rw (c .before .before .before .end-before .ensures) at (c .before .before .put-number .ensures)))
+    let left = rw (row-next (a .part) (a .end) row (l .i) lt) at (l .inv .1) in
+    let put = rw (c .before .before .before .end-before .ensures) at (c .before .before .put-number .ensures) in
+    (omega arith, put-more (writeParted (a .part) (a .end) row) (a .text .now) (a .at) (numberAt (a .part) (a .end) row (l .i)) (writeParted (a .part) (a .end) (drop (l .i + 1) row)) (l .text) (l .next) _ _ (start .pre) left put)
 
 same-length : tie.Need-same-length Inv-loop μ-loop
 same-length c = c .before .loop .inv .1 .long
@@ -57,7 +62,7 @@ same-length c = c .before .loop .inv .1 .long
 returns : tie.Need-returns Inv-loop μ-loop
 returns c = let a = c .before .before .before .before .args in
     let l = c .before .loop in
-    put-end (writeRow (a .row .now)) (a .text .now) (a .at) (l .text) (l .next) (rw (row-done (a .row .now) (l .i) (omega arith)) at (l .inv .1))
+    put-end (writeParted (a .part) (a .end) (a .row .now)) (a .text .now) (a .at) (l .text) (l .next) (rw (row-done (a .part) (a .end) (a .row .now) (l .i) (omega arith)) at (l .inv .1))
 
 pub put-row-spec : {M : Type 1} → statement M
 put-row-spec =

@@ -1,11 +1,12 @@
 -- `row::row_length` meets its contract. The loop's invariant: the sum with the length of the rest of the line is the length of the line, and each number passed gave at most 11.
 use Prim.Native.Nat.{_+_, _*_, _-_, _≤_}
-use mathlib.Core.Path.{_≡_, ap}
+use mathlib.Core.Path.{_≡_, sym, ap, _∙_}
 use native.Mathlib.Omega.{arith}
 use lib.ListN.{length, getD, drop}
+use Rattle.text_rules.specs.Fields.{COMMA, NEWLINE}
 use Rattle.text_rules.specs.Rows.{writeRow}
 use Rattle.text_rules.proofs.DecimalLaws.{digits-few}
-use Rattle.text_rules.proofs.LengthLaws.{row-next-length, row-done}
+use Rattle.text_rules.proofs.LengthLaws.{row-next-length, row-done, length-parted}
 use Rattle.text_writing.proofs.row.row_length.Statement.{statement}
 use Rattle.text_writing.proofs.row.row_length.Tie as tie
 
@@ -46,10 +47,13 @@ loop-less c = omega arith
 loop-again : tie.Need-loop-again Inv-loop μ-loop
 loop-again c = let row = c .before .before .before .before .before .args .row .now in
     let l = c .before .before .before .loop in
-    (omega arith, omega (arith, c .digits-of .ensures, row-next-length row (l .i) (omega arith)), omega (arith, few c))
+    (omega arith, omega (arith, c .digits-of .ensures, row-next-length COMMA NEWLINE row (l .i) (omega arith)), omega (arith, few c))
 
 returns : tie.Need-returns Inv-loop μ-loop
-returns c = let l = c .before .loop in (omega (arith, ap length (row-done (c .before .before .before .args .row .now) (l .i) (omega arith))), omega arith)
+returns c = let l = c .before .loop in
+    let row = c .before .before .before .args .row .now in
+    let line : l .sum ≡ length (writeRow row) = omega (arith, ap length (row-done COMMA NEWLINE row (l .i) (omega arith))) in
+    record { long = λ part end. line ∙ sym (length-parted part end row); few = omega arith }
 
 pub row-length-spec : {M : Type 1} → statement M
 row-length-spec =

@@ -6,6 +6,7 @@ use native.Mathlib.Omega.{arith}
 use lib.ListN.{length}
 use borrow.Author.Needs.{needs}
 use Rattle.series.specs.Sums.{listed}
+use Rattle.text_rules.specs.Fields.{COMMA, NEWLINE}
 use Rattle.text_rules.specs.Rows.{writeRow, writeRows, rowOf}
 use Rattle.text_rules.proofs.LengthLaws.{linesOf, lines-next-length}
 use Rattle.text_writing.specs.Parts.{written}
@@ -30,7 +31,7 @@ short s i = let a = s .args in row-short (a .left-out) (a .first .now) (a .secon
 line-length : (c : tie.After-row-length Inv-loop μ-loop) → let s = c .before .before .before .before .before .before .before .before .before .before .before .before .before .before .before in let i = c .before .before .before .before .before .before .before .before .before .loop .i in (c .row-length .result ≡ length (writeRow (rows s i))) × (c .row-length .result ≤ 55)
 line-length c = let i = c .before .before .before .before .before .before .before .before .before .loop .i in
     let e = rw row-written at (c .row-length .ensures) in
-    (e .0, omega (arith, e .1, short (c .before .before .before .before .before .before .before .before .before .before .before .before .before .before .before) i))
+    (e .long COMMA NEWLINE, omega (arith, e .few, short (c .before .before .before .before .before .before .before .before .before .before .before .before .before .before .before) i))
 
 loop-holds : tie.Need-loop-holds Inv-loop μ-loop
 unfolding writeRows listed
