@@ -1,8 +1,8 @@
 /*
  * Dilbreth: exercise assignment of option contracts.
  *
- * Each function but dilbreth_explain answers 0, or the number of the refusal that
- * it met:
+ * Each function but dilbreth_explain and dilbreth_version answers 0, or the number of
+ * the refusal that it met:
  *
  *    1  codes, accounts and numbers differ in length
  *    2  there are more than 4,096 positions
@@ -32,6 +32,15 @@
  * its pointer. No pointer may be null, that of a list of length 0 included.
  * An area that a call writes, numbers behind pointers included, may not overlap with
  * any other that it is handed; two that it only reads may.
+ *
+ * Any number of threads may be in any of the calls at once: no call keeps anything from
+ * one time to the next, and each works only on what it is handed and on its own stack.
+ * What one call writes, no other may read or write at the same time.
+ *
+ * 64 KB of stack that are free at the call are enough for any of them; dilbreth_respond
+ * and dilbreth_allocate need most of that. rust/compare/tests/stack.rs runs each call on
+ * a thread that has 64 KB in all, with lists and texts as long as may be, in both forms,
+ * and under every method where amounts are worked out.
  */
 #ifndef DILBRETH_H
 #define DILBRETH_H
@@ -44,8 +53,40 @@ extern "C" {
 #endif
 
 /* Raised where a signature, a constant or a length that is always enough changes, or a
-   call or a constant is new; 1 was the first delivery's. */
-#define DILBRETH_VERSION 6
+   call or a constant is new; 1 was the first delivery's. The same number stands in
+   dilbreth.pas, rust/dilbreth/src/version.rs, and crates/dilbreth/src/version.rt and
+   specs/Version.antt. */
+#define DILBRETH_VERSION 7
+
+/* The number that the archive was built with. */
+uint32_t dilbreth_version(void);
+
+/*
+ * The archive of number N has the function dilbreth_version_N too, and every file that
+ * includes this header refers to the one of the header's number. So an archive of another
+ * number does not link: the linker names that function as undefined.
+ * A compiler without the attribute `used` may leave the reference out. With one without
+ * `retain` (gcc before 11, clang before 13) the linker drops it under --gc-sections. In
+ * these cases compare dilbreth_version() with DILBRETH_VERSION.
+ */
+#define DILBRETH_JOIN(name, number) name##number
+#define DILBRETH_NUMBERED(name, number) DILBRETH_JOIN(name, number)
+#ifdef __has_attribute
+#if __has_attribute(retain)
+#define DILBRETH_KEPT __attribute__((used, retain))
+#endif
+#endif
+#ifndef DILBRETH_KEPT
+#ifdef __GNUC__
+#define DILBRETH_KEPT __attribute__((used))
+#else
+#define DILBRETH_KEPT
+#endif
+#endif
+
+uint32_t DILBRETH_NUMBERED(dilbreth_version_, DILBRETH_VERSION)(void);
+DILBRETH_KEPT static uint32_t (*const dilbreth_linked_version)(void) =
+    DILBRETH_NUMBERED(dilbreth_version_, DILBRETH_VERSION);
 
 /* The methods. */
 #define DILBRETH_WHEEL ((uint8_t)'W')

@@ -1,15 +1,20 @@
 { Dilbreth: exercise assignment of option contracts. dilbreth.h says what each call does and answers.
-  A list is a pointer and then its length; no pointer may be nil. }
+  A list is an array and then its length, which counts from the element handed: `codes, 5` or `codes[2], 3`. A call
+  gets the address alone, as from C, so it cannot see how long the array is; nor may that be nil, which an empty
+  dynamic array is: hand any other array, with length 0. A text is a pointer to its bytes and then its length. }
 unit dilbreth;
 
 {$mode objfpc}
 {$linklib libdilbreth.a}
 {$linklib c}
+{ C arrays are passed by reference: that is meant. }
+{$warn 3187 off}
 
 interface
 
 const
-  DILBRETH_VERSION = 6;
+  { dilbreth_version_7 below has the same number, and dilbreth.h says where else it stands. }
+  DILBRETH_VERSION = 7;
   DILBRETH_WHEEL = Ord('W');
   DILBRETH_PRO_RATA = Ord('P');
   DILBRETH_LOTTERY = Ord('L');
@@ -20,51 +25,60 @@ const
   DILBRETH_FINAL_DAY = 1;
   DILBRETH_LONGEST_EXPLANATION = 50;
 
+{ dilbreth_version of C, a name that the constant has here. }
+function dilbreth_archive_version: LongWord; cdecl; external name 'dilbreth_version';
+
 function dilbreth_allocate(method: Byte; form: LongWord;
-  codes: PLongWord; codes_len: SizeUInt;
-  accounts: PLongWord; accounts_len: SizeUInt;
-  numbers: PLongWord; numbers_len: SizeUInt;
+  const codes: array of LongWord; codes_len: SizeUInt;
+  const accounts: array of LongWord; accounts_len: SizeUInt;
+  const numbers: array of LongWord; numbers_len: SizeUInt;
   exercised, draw: LongWord;
-  amounts: PLongWord; amounts_len: SizeUInt;
-  total, further: PLongWord): LongWord; cdecl; external;
+  var amounts: array of LongWord; amounts_len: SizeUInt;
+  var total, further: LongWord): LongWord; cdecl; external;
 
 function dilbreth_read(text: PByte; text_len: SizeUInt;
-  codes: PLongWord; codes_len: SizeUInt;
-  accounts: PLongWord; accounts_len: SizeUInt;
-  numbers: PLongWord; numbers_len: SizeUInt;
-  method: PByte; exercised, draw: PLongWord;
-  form: PLongWord; positions: PSizeUInt): LongWord; cdecl; external;
+  var codes: array of LongWord; codes_len: SizeUInt;
+  var accounts: array of LongWord; accounts_len: SizeUInt;
+  var numbers: array of LongWord; numbers_len: SizeUInt;
+  var method: Byte; var exercised, draw: LongWord;
+  var form: LongWord; var positions: SizeUInt): LongWord; cdecl; external;
 
 function dilbreth_write(method: Byte; exercised, draw: LongWord; form: LongWord;
-  codes: PLongWord; codes_len: SizeUInt;
-  accounts: PLongWord; accounts_len: SizeUInt;
-  numbers: PLongWord; numbers_len: SizeUInt;
+  const codes: array of LongWord; codes_len: SizeUInt;
+  const accounts: array of LongWord; accounts_len: SizeUInt;
+  const numbers: array of LongWord; numbers_len: SizeUInt;
   text: PByte; text_len: SizeUInt;
-  written: PSizeUInt): LongWord; cdecl; external;
+  var written: SizeUInt): LongWord; cdecl; external;
 
 function dilbreth_change(text: PByte; text_len: SizeUInt;
   output: PByte; output_len: SizeUInt;
-  written: PSizeUInt): LongWord; cdecl; external;
+  var written: SizeUInt): LongWord; cdecl; external;
 
 function dilbreth_respond(text: PByte; text_len: SizeUInt;
   output: PByte; output_len: SizeUInt;
-  written: PSizeUInt): LongWord; cdecl; external;
+  var written: SizeUInt): LongWord; cdecl; external;
 
 function dilbreth_process_investor(day: LongWord;
   opening_long, opening_short: LongWord;
   opening_purchases, opening_sales: LongWord;
   closing_purchases, closing_sales: LongWord;
   exercised: LongWord;
-  limit, long_after, short_after: PLongWord): LongWord; cdecl; external;
+  var limit, long_after, short_after: LongWord): LongWord; cdecl; external;
 
 function dilbreth_process_market_maker(day: LongWord;
   opening_long, opening_short: LongWord;
   purchases, sales: LongWord;
-  limit: PLongWord): LongWord; cdecl; external;
+  var limit: LongWord): LongWord; cdecl; external;
 
 function dilbreth_explain(number: LongWord;
   line: PByte; line_len: SizeUInt): SizeUInt; cdecl; external;
 
 implementation
+
+{ Only an archive of this number has it: no other one links. }
+function dilbreth_version_7: LongWord; cdecl; external;
+
+initialization
+  dilbreth_version_7;
 
 end.

@@ -411,7 +411,7 @@ int main(void)
 {
     size_t i;
 
-    see("the version", DILBRETH_VERSION == 6);
+    see("the version", dilbreth_version() == DILBRETH_VERSION);
     for (i = 0; i < sizeof KNOWN / sizeof KNOWN[0]; i++)
         known(&KNOWN[i]);
     case_m();

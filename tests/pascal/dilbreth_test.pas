@@ -56,8 +56,8 @@ begin
   FillDWord(codes, 6, 999);
   FillDWord(accounts, 6, 999);
   FillDWord(numbers, 6, 999);
-  ReadText := dilbreth_read(PByte(text), Length(text), @codes[0], 6, @accounts[0], 6, @numbers[0], 6,
-    @method, @exercised, @draw, @form, @positions);
+  ReadText := dilbreth_read(PByte(text), Length(text), codes, 6, accounts, 6, numbers, 6,
+    method, exercised, draw, form, positions);
 end;
 
 { Changes a text, with an output of the length; answers 0 or the number of the refusal. }
@@ -65,7 +65,7 @@ function Change(const text: string; output_len: SizeUInt): LongWord;
 begin
   bytes := StringOfChar('x', 100);
   written := 999;
-  Change := dilbreth_change(PByte(text), Length(text), PByte(bytes), output_len, @written);
+  Change := dilbreth_change(PByte(text), Length(text), PByte(bytes), output_len, written);
 end;
 
 { Allocates the first positions of M without a draw; answers 0 or the number of the refusal. }
@@ -74,8 +74,8 @@ begin
   FillDWord(amounts, 6, 999);
   total := 999;
   further := 999;
-  Undrawn := dilbreth_allocate(by, DILBRETH_SHORTS, @codes[0], count, @accounts[0], count, @numbers[0], count, s, 0,
-    @amounts[0], 6, @total, @further);
+  Undrawn := dilbreth_allocate(by, DILBRETH_SHORTS, codes, count, accounts, count, numbers, count, s, 0,
+    amounts, 6, total, further);
 end;
 
 { An investor's day; answers 0 or the number of the refusal. }
@@ -86,7 +86,7 @@ begin
   long_after := 998;
   short_after := 997;
   Investor := dilbreth_process_investor(day, opening_long, opening_short, opening_purchases, opening_sales,
-    closing_purchases, closing_sales, s, @limit, @long_after, @short_after);
+    closing_purchases, closing_sales, s, limit, long_after, short_after);
 end;
 
 { Whether the limit, long and short after the day are these. }
@@ -99,23 +99,29 @@ end;
 function MarketMaker(day, opening_long, opening_short, purchases, sales: LongWord): LongWord;
 begin
   limit := 999;
-  MarketMaker := dilbreth_process_market_maker(day, opening_long, opening_short, purchases, sales, @limit);
+  MarketMaker := dilbreth_process_market_maker(day, opening_long, opening_short, purchases, sales, limit);
 end;
 
 begin
   series := M;
   bytes := StringOfChar('x', 100);
   FillDWord(amounts, 6, 999);
-  See('the version', DILBRETH_VERSION = 6);
+  See('the version', dilbreth_archive_version = DILBRETH_VERSION);
   See('read', (ReadText(series) = 0)
     and (method = DILBRETH_LOTTERY) and (exercised = 13) and (draw = 4855) and (form = DILBRETH_SHORTS)
     and (positions = 5) and (codes[4] = 5) and (accounts[4] = 5) and (numbers[4] = 11)
     and (codes[5] = 999) and (accounts[5] = 999) and (numbers[5] = 999));
-  See('allocate', (dilbreth_allocate(method, form, @codes[0], 5, @accounts[0], 5, @numbers[0], 5, exercised, draw,
-    @amounts[0], 6, @total, @further) = 0)
+  See('allocate', (dilbreth_allocate(method, form, codes, 5, accounts, 5, numbers, 5, exercised, draw,
+    amounts, 6, total, further) = 0)
     and (total = 36) and (further = 18) and (CompareDWord(amounts, AMOUNTS_OF_M, 6) = 0));
-  See('allocate refuses 9', dilbreth_allocate(DILBRETH_WHEEL, form, @codes[0], 5, @accounts[0], 5, @numbers[0], 5, 37,
-    1, @amounts[0], 6, @total, @further) = 9);
+  FillDWord(amounts, 6, 999);
+  See('allocate a part of the lists', (dilbreth_allocate(DILBRETH_PRO_RATA, form, codes, 0, accounts[1], 3, numbers[2],
+    3, 23, 0, amounts[3], 3, total, further) = 0)
+    and (total = 23) and (amounts[2] = 999) and (CompareDWord(amounts[3], numbers[2], 3) = 0));
+  total := 999;
+  further := 998;
+  See('allocate refuses 9', (dilbreth_allocate(DILBRETH_WHEEL, form, codes, 5, accounts, 5, numbers, 5, 37,
+    1, amounts, 6, total, further) = 9) and (total = 999) and (further = 998));
   See('allocate a whole series of W without a draw', (Undrawn(DILBRETH_WHEEL, 5, 36) = 0)
     and (total = 36) and (further = 0) and (CompareDWord(amounts, numbers, 6) = 0));
   See('allocate a whole series of L without a draw', (Undrawn(DILBRETH_LOTTERY, 5, 36) = 0)
@@ -123,39 +129,39 @@ begin
   See('allocate one position of L without a draw', (Undrawn(DILBRETH_LOTTERY, 1, 4) = 0)
     and (total = 5) and (further = 0) and (amounts[0] = 4) and (amounts[1] = 999));
   See('allocate refuses 10 for one position of W', (Undrawn(DILBRETH_WHEEL, 1, 4) = 10) and (amounts[0] = 999));
-  See('write', (dilbreth_write(method, exercised, draw, form, @codes[0], 5, @accounts[0], 5, @numbers[0], 5,
-    PByte(bytes), Length(bytes), @written) = 0)
+  See('write', (dilbreth_write(method, exercised, draw, form, codes, 5, accounts, 5, numbers, 5,
+    PByte(bytes), Length(bytes), written) = 0)
     and (First(written) = series) and (bytes[written + 1] = 'x'));
   See('read refuses 13 for eleven digits', (ReadText(ELEVEN) = 13) and (accounts[0] = 999) and (numbers[0] = 999));
   See('read leading zeros', (ReadText(M_SPELLED) = 0) and (exercised = 13) and (draw = 4855) and (positions = 5)
     and (accounts[0] = 1) and (numbers[2] = 2) and (accounts[4] = 5) and (accounts[5] = 999));
   bytes := StringOfChar('x', 100);
-  See('write no leading zeros', (dilbreth_write(method, exercised, draw, form, @codes[0], 5, @accounts[0], 5,
-    @numbers[0], 5, PByte(bytes), Length(bytes), @written) = 0)
+  See('write no leading zeros', (dilbreth_write(method, exercised, draw, form, codes, 5, accounts, 5,
+    numbers, 5, PByte(bytes), Length(bytes), written) = 0)
     and (First(written) = series) and (bytes[written + 1] = 'x'));
-  See('respond', (dilbreth_respond(PByte(series), Length(series), PByte(bytes), Length(bytes), @written) = 0)
+  See('respond', (dilbreth_respond(PByte(series), Length(series), PByte(bytes), Length(bytes), written) = 0)
     and (First(written) = M_ASSIGNED));
   See('read codes', (ReadText(A_CODED) = 0) and (method = DILBRETH_WHEEL) and (positions = 3)
     and (codes[2] = 30) and (accounts[2] = 100) and (numbers[2] = 95) and (codes[3] = 999));
   FillDWord(amounts, 6, 999);
-  See('allocate by codes', (dilbreth_allocate(method, form, @codes[0], 3, @accounts[0], 3, @numbers[0], 3, exercised,
-    draw, @amounts[0], 6, @total, @further) = 0)
+  See('allocate by codes', (dilbreth_allocate(method, form, codes, 3, accounts, 3, numbers, 3, exercised,
+    draw, amounts, 6, total, further) = 0)
     and (total = 355) and (further = 7) and (CompareDWord(amounts, AMOUNTS_OF_A, 6) = 0));
-  See('allocate refuses 1 for codes of another length under W', dilbreth_allocate(method, form, @codes[0], 2,
-    @accounts[0], 3, @numbers[0], 3, exercised, draw, @amounts[0], 6, @total, @further) = 1);
-  See('allocate refuses 5 for accounts that fall under P', dilbreth_allocate(DILBRETH_PRO_RATA, form, @codes[0], 2,
-    @accounts[0], 3, @numbers[0], 3, exercised, draw, @amounts[0], 6, @total, @further) = 5);
+  See('allocate refuses 1 for codes of another length under W', dilbreth_allocate(method, form, codes, 2,
+    accounts, 3, numbers, 3, exercised, draw, amounts, 6, total, further) = 1);
+  See('allocate refuses 5 for accounts that fall under P', dilbreth_allocate(DILBRETH_PRO_RATA, form, codes, 2,
+    accounts, 3, numbers, 3, exercised, draw, amounts, 6, total, further) = 5);
   bytes := StringOfChar('x', 100);
-  See('write codes', (dilbreth_write(method, exercised, draw, form, @codes[0], 3, @accounts[0], 3, @numbers[0], 3,
-    PByte(bytes), Length(bytes), @written) = 0)
+  See('write codes', (dilbreth_write(method, exercised, draw, form, codes, 3, accounts, 3, numbers, 3,
+    PByte(bytes), Length(bytes), written) = 0)
     and (First(written) = A_CODED) and (bytes[written + 1] = 'x'));
   series := A_CODED;
   See('respond in code order', (dilbreth_respond(PByte(series), Length(series), PByte(bytes), Length(bytes),
-    @written) = 0) and (First(written) = A_ASSIGNED));
+    written) = 0) and (First(written) = A_ASSIGNED));
   See('read R', (ReadText(M_DRAWN) = 0) and (method = DILBRETH_REMAINDER_DRAW) and (draw = 53) and (positions = 5));
   FillDWord(amounts, 6, 999);
-  See('allocate under R without a code', (dilbreth_allocate(DILBRETH_REMAINDER_DRAW, form, @codes[0], 0, @accounts[0],
-    5, @numbers[0], 5, exercised, draw, @amounts[0], 6, @total, @further) = 0)
+  See('allocate under R without a code', (dilbreth_allocate(DILBRETH_REMAINDER_DRAW, form, codes, 0, accounts,
+    5, numbers, 5, exercised, draw, amounts, 6, total, further) = 0)
     and (total = 36) and (further = 18) and (CompareDWord(amounts, AMOUNTS_OF_M, 6) = 0));
   See('allocate a whole series of R', (Undrawn(DILBRETH_REMAINDER_DRAW, 5, 36) = 0)
     and (total = 36) and (further = 0) and (CompareDWord(amounts, numbers, 6) = 0));
@@ -164,26 +170,26 @@ begin
   series := M_DRAWN;
   bytes := StringOfChar('x', 200);
   See('respond with the ranges', (dilbreth_respond(PByte(series), Length(series), PByte(bytes), Length(bytes),
-    @written) = 0) and (First(written) = M_ASSIGNED + M_RANGES) and (bytes[written + 1] = 'x'));
+    written) = 0) and (First(written) = M_ASSIGNED + M_RANGES) and (bytes[written + 1] = 'x'));
   See('read last numbers', (ReadText(M_LASTS) = 0) and (form = DILBRETH_LAST_NUMBERS) and (method = DILBRETH_LOTTERY)
     and (exercised = 13) and (draw = 4855) and (positions = 5) and (accounts[4] = 5) and (numbers[1] = 13)
     and (numbers[4] = 36) and (numbers[5] = 999));
   FillDWord(amounts, 6, 999);
-  See('allocate by last numbers', (dilbreth_allocate(method, form, @codes[0], 5, @accounts[0], 5, @numbers[0], 5,
-    exercised, draw, @amounts[0], 6, @total, @further) = 0)
+  See('allocate by last numbers', (dilbreth_allocate(method, form, codes, 5, accounts, 5, numbers, 5,
+    exercised, draw, amounts, 6, total, further) = 0)
     and (total = 36) and (further = 18) and (CompareDWord(amounts, AMOUNTS_OF_M, 6) = 0));
   bytes := StringOfChar('x', 100);
-  See('write last numbers', (dilbreth_write(method, exercised, draw, form, @codes[0], 5, @accounts[0], 5,
-    @numbers[0], 5, PByte(bytes), Length(bytes), @written) = 0)
+  See('write last numbers', (dilbreth_write(method, exercised, draw, form, codes, 5, accounts, 5,
+    numbers, 5, PByte(bytes), Length(bytes), written) = 0)
     and (First(written) = M_LASTS) and (bytes[written + 1] = 'x'));
   series := M_LASTS;
   See('respond to last numbers', (dilbreth_respond(PByte(series), Length(series), PByte(bytes), Length(bytes),
-    @written) = 0) and (First(written) = M_ASSIGNED));
+    written) = 0) and (First(written) = M_ASSIGNED));
   numbers[0] := 0;
-  See('allocate refuses 20', dilbreth_allocate(method, 2, @codes[0], 0, @accounts[0], 5, @numbers[0], 5, exercised,
-    draw, @amounts[0], 6, @total, @further) = 20);
-  See('allocate refuses 6 in the form of shorts', dilbreth_allocate(method, DILBRETH_SHORTS, @codes[0], 0, @accounts[0],
-    5, @numbers[0], 5, exercised, draw, @amounts[0], 6, @total, @further) = 6);
+  See('allocate refuses 20', dilbreth_allocate(method, 2, codes, 0, accounts, 5, numbers, 5, exercised,
+    draw, amounts, 6, total, further) = 20);
+  See('allocate refuses 6 in the form of shorts', dilbreth_allocate(method, DILBRETH_SHORTS, codes, 0, accounts,
+    5, numbers, 5, exercised, draw, amounts, 6, total, further) = 6);
   See('change to shorts', (Change(M_LASTS, 100) = 0) and (First(written) = M) and (bytes[written + 1] = 'x'));
   See('change to last numbers', (Change(M, 100) = 0) and (First(written) = M_LASTS) and (bytes[written + 1] = 'x'));
   See('change with codes', (Change(A_CODED, 100) = 0) and (First(written) = A_LASTS));
@@ -193,8 +199,8 @@ begin
   See('change refuses 13', (Change(ELEVEN, 100) = 13) and (written = 999) and (bytes = StringOfChar('x', 100)));
   See('read codes again', ReadText(A_CODED) = 0);
   accounts[2] := 500;
-  See('allocate refuses 19', dilbreth_allocate(method, form, @codes[0], 3, @accounts[0], 3, @numbers[0], 3, exercised,
-    draw, @amounts[0], 6, @total, @further) = 19);
+  See('allocate refuses 19', dilbreth_allocate(method, form, codes, 3, accounts, 3, numbers, 3, exercised,
+    draw, amounts, 6, total, further) = 19);
   See('investor X', (Investor(DILBRETH_ORDINARY_DAY, 15, 0, 20, 0, 0, 10, 35) = 0) and After(35, 0, 10));
   See('investor X, final day', (Investor(DILBRETH_FINAL_DAY, 15, 0, 20, 0, 0, 10, 25) = 0) and After(25, 0, 0));
   See('investor Y', (Investor(DILBRETH_ORDINARY_DAY, 0, 20, 20, 0, 0, 0, 0) = 0) and After(20, 20, 20));

@@ -2,6 +2,7 @@
 //! Each function here runs one case on both and compares the whole answer; a case that
 //! differs is printed as a line that `cargo run --release --example again` takes.
 
+pub mod archive;
 pub mod cases;
 pub mod days;
 pub mod make;

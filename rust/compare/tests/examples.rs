@@ -1,5 +1,5 @@
-// The examples: what the programs print for each, that README.md shows it, the script that has only whole lists booked,
-// and the program of the day's activity.
+// The examples: what the programs print for each, that docs/GUIDE.md shows it, the script that has only whole lists
+// booked, and the program of the day's activity.
 
 use std::fs::{self, File};
 use std::os::unix::fs::PermissionsExt;
@@ -11,7 +11,7 @@ use compare::program::Program::{Assign, ChangeForm};
 use compare::program::{Feed, TextFile};
 use compare::Form;
 
-const README: &str = include_str!("../../../README.md");
+const GUIDE: &str = include_str!("../../../docs/GUIDE.md");
 
 fn folder() -> PathBuf {
     PathBuf::from(concat!(env!("CARGO_MANIFEST_DIR"), "/../../examples"))
@@ -21,21 +21,26 @@ fn file(name: &str) -> String {
     fs::read_to_string(folder().join(name)).expect(name)
 }
 
-// The first indented block of README.md after the words.
+// The first indented block of the guide after the words, which stand in it once.
 fn shown_after(words: &str) -> String {
-    let (_, rest) = README.split_once(words).unwrap_or_else(|| panic!("README.md has no {words:?}"));
+    let parts: Vec<&str> = GUIDE.split(words).collect();
+    let [_, rest] = parts[..] else { panic!("docs/GUIDE.md has {words:?} {} times", parts.len() - 1) };
     let block = rest.lines().skip(1).skip_while(|line| !line.starts_with("    "));
     block.map_while(|line| line.strip_prefix("    ")).map(|line| format!("{line}\n")).collect()
 }
 
-// What README.md shows for an example: the block after its name, or that of another one, which it names.
+// What the guide shows for an example: the block after `examples/NAME.txt` (..) gives, or that of another one, which it
+// names.
 fn shown_for(name: &str) -> String {
-    let words = format!("`examples/{name}.txt`");
-    let rest_of_line = README.split_once(&words).and_then(|(_, rest)| rest.lines().next()).unwrap_or("");
+    let words = format!("`examples/{name}.txt` (");
+    let rest_of_line = GUIDE.split_once(&words).and_then(|(_, rest)| rest.lines().next()).unwrap_or("");
     let same = rest_of_line.split_once("gives what `examples/").and_then(|(_, rest)| rest.split_once(".txt` gives"));
     match same {
         Some((other, _)) => shown_for(other),
-        None => shown_after(&words),
+        None => {
+            assert!(rest_of_line.ends_with(" gives"), "docs/GUIDE.md does not show what examples/{name}.txt gives");
+            shown_after(&words)
+        }
     }
 }
 
@@ -60,6 +65,7 @@ fn every_example_prints_what_is_stored_and_shown() {
     let names = [
         "wheel",
         "pro-rata",
+        "five-decimals",
         "lottery",
         "remainder-draw",
         "leading-zeros",
@@ -73,7 +79,10 @@ fn every_example_prints_what_is_stored_and_shown() {
         assert!(examples.contains(&(name.to_string(), name == "refused")), "{name}");
     }
     assert_eq!(shown_after("## The text of a series"), file("lottery.txt"));
-    assert_eq!(shown_after("## Last numbers"), file("last-numbers.txt"));
+    assert_eq!(shown_after("### With codes"), file("codes.txt"));
+    assert_eq!(shown_after("### With last numbers"), file("last-numbers.txt"));
+    let after_day = shown_after("so these four give three positions");
+    assert_eq!(format!("method,exercised,draw\nL,13,4855\n{after_day}"), file("after-day.txt"));
 }
 
 fn change(text: &str) -> String {
@@ -441,11 +450,11 @@ fn a_day_that_cannot_be_written() {
     }
 }
 
-// The commands `./day ..` of README.md, each with the lines below it.
+// The commands `./day ..` of the guide, each with the lines below it.
 fn shown_days() -> Vec<(&'static str, String)> {
     let mut shown: Vec<(&str, String)> = Vec::new();
     let mut below = false;
-    for line in README.lines() {
+    for line in GUIDE.lines() {
         let Some(line) = line.strip_prefix("    ") else {
             below = false;
             continue;
@@ -461,9 +470,9 @@ fn shown_days() -> Vec<(&'static str, String)> {
 }
 
 #[test]
-fn every_day_of_the_readme() {
+fn every_day_of_the_guide() {
     let shown = shown_days();
-    assert!(shown.len() >= 5, "README.md has {} commands `./day`", shown.len());
+    assert!(shown.len() >= 7, "docs/GUIDE.md has {} commands `./day`", shown.len());
     for (words, printed) in shown {
         assert!(!printed.is_empty(), "./day {words}");
         assert_eq!(day(words).1, printed, "./day {words}");

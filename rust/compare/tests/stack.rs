@@ -63,7 +63,9 @@ fn respond(text: Vec<u8>) {
 fn responding() {
     let list = Series::by_account(make::upward(1_024), vec![977; 1_024]);
     for form in FORMS {
-        respond(reference::write(b'P', 700_000, 5, list.in_form(form).list(), usize::MAX).expect("a text"));
+        for method in make::METHODS {
+            respond(reference::write(method, 700_000, 5, list.in_form(form).list(), usize::MAX).expect("a text"));
+        }
         respond(make::text_of_length(form, 32_768));
     }
 }
@@ -111,4 +113,19 @@ fn changing() {
             assert_eq!(&output[..written], &changed[..]);
         });
     }
+}
+
+#[test]
+fn a_day_the_words_and_the_version() {
+    on_a_small_stack(|| {
+        let (mut limit, mut long, mut short) = (0, 0, 0);
+        let after = (&mut limit, &mut long, &mut short);
+        assert_eq!(calls::process_investor(1, 9, 8, 7, 6, 5, 4, 3, after.0, after.1, after.2), 0);
+        assert_eq!((limit, long, short), (3, 0, 0));
+        assert_eq!(calls::process_market_maker(1, 9, 8, 7, 6, &mut limit), 0);
+        assert_eq!(limit, 2);
+        let mut line = [0; 50];
+        assert_eq!((0..=21).map(|number| calls::explain(number, &mut line)).max(), Some(50));
+        assert_eq!(dilbreth::version(), dilbreth::VERSION);
+    });
 }

@@ -1,19 +1,21 @@
-// The words for the refusals: README.md and the header show those of the library.
+// The words for the refusals: docs/GUIDE.md and the header show those of the library.
 
 use compare::make::METHODS;
 use compare::Count;
 use dilbreth::{Day, Form, Method};
 
-const README: &str = include_str!("../../../README.md");
+const GUIDE: &str = include_str!("../../../docs/GUIDE.md");
 const HEADER: &str = include_str!("../../../include/dilbreth.h");
 const UNIT: &str = include_str!("../../../include/dilbreth.pas");
 
-// The words of README's table of refusals: rows `| number | words | what to do |`.
-fn readme_table() -> Vec<(u32, String)> {
-    let (_, table) = README.split_once("| Number | What is wrong | What to do |\n").expect("the table of refusals");
+// The words of the guide's table of refusals: rows `| number | words | what to do |`.
+fn guide_table() -> Vec<(u32, String)> {
+    let (_, table) = GUIDE.split_once("| Number | What is wrong | What to do |\n").expect("the table of refusals");
     let row = |line: &str| {
         let cells: Vec<&str> = line.strip_prefix('|')?.split('|').map(str::trim).collect();
-        Some((cells[0].parse().ok()?, cells[1].to_string()))
+        let number = cells[0].parse().ok()?;
+        assert!(!cells[2].is_empty(), "{number} has no remedy");
+        Some((number, cells[1].to_string()))
     };
     table.lines().take_while(|line| line.starts_with('|')).filter_map(row).collect()
 }
@@ -36,7 +38,7 @@ fn header_constant(name: &str) -> u32 {
 #[test]
 fn tables_show_the_words() {
     let words: Vec<(u32, String)> = (1..=20).map(|number| (number, dilbreth::explain(number))).collect();
-    assert_eq!(readme_table(), words);
+    assert_eq!(guide_table(), words);
     assert_eq!(header_table(), words);
 }
 

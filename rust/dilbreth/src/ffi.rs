@@ -1,6 +1,8 @@
 //! The functions of the archive, as `include/dilbreth.h` has them.
 
 extern "C" {
+    pub fn dilbreth_version() -> u32;
+
     pub fn dilbreth_allocate(
         method: u8,
         form: u32,

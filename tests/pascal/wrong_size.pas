@@ -1,0 +1,58 @@
+{ Hands each call an output or a list whose numbers have another size, at the lines marked: fpc refuses each of them, and
+  none where RIGHT is defined. }
+program wrong_size;
+
+{$mode objfpc}
+
+uses
+  dilbreth;
+
+type
+{$ifdef RIGHT}
+  TNumber = LongWord;
+  TLength = SizeUInt;
+  TLetter = Byte;
+{$else}
+  TNumber = Word;
+  TLength = LongWord;
+  TLetter = LongWord;
+{$endif}
+
+var
+  list: array[0..5] of LongWord;
+  letter: Byte;
+  number: LongWord;
+  len: SizeUInt;
+  other_list: array[0..5] of TNumber;
+  other_letter: TLetter;
+  other_number: TNumber;
+  other_len: TLength;
+  bytes: PByte;
+
+begin
+  bytes := PByte(@list);
+  dilbreth_allocate(80, 0, other_list, 0, list, 0, list, 0, 0, 0, list, 0, number, number); { refused }
+  dilbreth_allocate(80, 0, list, 0, other_list, 0, list, 0, 0, 0, list, 0, number, number); { refused }
+  dilbreth_allocate(80, 0, list, 0, list, 0, other_list, 0, 0, 0, list, 0, number, number); { refused }
+  dilbreth_allocate(80, 0, list, 0, list, 0, list, 0, 0, 0, other_list, 0, number, number); { refused }
+  dilbreth_allocate(80, 0, list, 0, list, 0, list, 0, 0, 0, list, 0, other_number, number); { refused }
+  dilbreth_allocate(80, 0, list, 0, list, 0, list, 0, 0, 0, list, 0, number, other_number); { refused }
+  dilbreth_read(bytes, 0, other_list, 0, list, 0, list, 0, letter, number, number, number, len); { refused }
+  dilbreth_read(bytes, 0, list, 0, other_list, 0, list, 0, letter, number, number, number, len); { refused }
+  dilbreth_read(bytes, 0, list, 0, list, 0, other_list, 0, letter, number, number, number, len); { refused }
+  dilbreth_read(bytes, 0, list, 0, list, 0, list, 0, other_letter, number, number, number, len); { refused }
+  dilbreth_read(bytes, 0, list, 0, list, 0, list, 0, letter, other_number, number, number, len); { refused }
+  dilbreth_read(bytes, 0, list, 0, list, 0, list, 0, letter, number, other_number, number, len); { refused }
+  dilbreth_read(bytes, 0, list, 0, list, 0, list, 0, letter, number, number, other_number, len); { refused }
+  dilbreth_read(bytes, 0, list, 0, list, 0, list, 0, letter, number, number, number, other_len); { refused }
+  dilbreth_write(80, 0, 0, 0, other_list, 0, list, 0, list, 0, bytes, 0, len); { refused }
+  dilbreth_write(80, 0, 0, 0, list, 0, other_list, 0, list, 0, bytes, 0, len); { refused }
+  dilbreth_write(80, 0, 0, 0, list, 0, list, 0, other_list, 0, bytes, 0, len); { refused }
+  dilbreth_write(80, 0, 0, 0, list, 0, list, 0, list, 0, bytes, 0, other_len); { refused }
+  dilbreth_change(bytes, 0, bytes, 0, other_len); { refused }
+  dilbreth_respond(bytes, 0, bytes, 0, other_len); { refused }
+  dilbreth_process_investor(0, 0, 0, 0, 0, 0, 0, 0, other_number, number, number); { refused }
+  dilbreth_process_investor(0, 0, 0, 0, 0, 0, 0, 0, number, other_number, number); { refused }
+  dilbreth_process_investor(0, 0, 0, 0, 0, 0, 0, 0, number, number, other_number); { refused }
+  dilbreth_process_market_maker(0, 0, 0, 0, 0, other_number); { refused }
+end.
