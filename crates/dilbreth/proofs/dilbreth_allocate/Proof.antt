@@ -1,11 +1,33 @@
 -- `dilbreth_allocate` meets its contract: the letter's method is called, and its answer handed back.
-use mathlib.Core.Path.{sym, ap, _∙_}
+use mathlib.Core.Path.{_≡_, sym, ap, _∙_}
+use Rattle.series.specs.Results.{Result, after, status}
+use Rattle.series.specs.Outputs.{lent}
 use Rattle.text_words.specs.Parts.{namedMeans}
-use Rattle.answer_numbers.specs.Numbers.{numbersMean}
+use Rattle.answer_numbers.specs.Numbers.{Handing, numbersMean}
+use Rattle.dilbreth.specs.Exports.{listingBy, Allocates}
 use Rattle.dilbreth.proofs.ExportLaws.{allocate-unknown, allocate-known}
 use borrow.Author.Needs.{needs}
 use Rattle.dilbreth.proofs.dilbreth_allocate.Statement.{statement}
 use Rattle.dilbreth.proofs.dilbreth_allocate.Tie as tie
+
+-- the function's entry, from where the call answers
+abbrev start : tie.After-allocate → tie.Start
+start c = c .before .before .before .before .before .before .before .before .before .before .before .before
+
+-- what the call and its numbers h come to
+called : (c : tie.After-numbers-of) (h : Result Handing) → h ≡ numbersMean (c .numbers-of .result)
+    → let call = c .before .before .before in
+    let a = start call .args in
+    Allocates (listingBy (a .method) (a .form) (a .exercised) (a .draw) (a .codes .now) (a .accounts .now) (a .numbers .now)) (status h) (a .amounts .now) (call .allocate .last .1 .1 .1 .1 .1 .0)
+    (lent (a .total .now) (after h (λ x. x .total) (a .total .now))) (lent (a .further .now) (after h (λ x. x .further) (a .further .now)))
+called c h e =
+    let call = c .before .before .before in
+    let form = call .before .before in
+    let named = form .before .before .before in
+    let by = named .before .before in
+    let a = start call .args in
+    allocate-known (a .method) (a .form) (a .exercised) (a .draw) (a .codes .now) (a .accounts .now) (a .numbers .now) _ (sym (ap namedMeans (named .named .given .1)) ∙ by .method-by .ensures) _ (form .before .terms-of .ensures) _ (form .form-by .ensures) _ _
+    (a .amounts .now) _ (a .total .now) (a .further .now) (e ∙ c .numbers-of .ensures) (call .allocate .ensures)
 
 method-by-requires : tie.Need-method-by-requires
 method-by-requires c κs = search needs
@@ -41,27 +63,13 @@ same-length : tie.Need-same-length
 same-length c = search needs
 
 returns-2 : tie.Need-returns-2
-returns-2 c = let numbers = c .before .before .before in
-    let call = numbers .before .before .before in
-    let form = call .before .before in
-    let named = form .before .before .before in
-    let by = named .before .before in
-    let a = by .before .before .before .before .before .args in
-    allocate-known (a .method) (a .form) (a .exercised) (a .draw) (a .codes .now) (a .accounts .now) (a .numbers .now) _ (sym (ap namedMeans (named .named .given .1)) ∙ by .method-by .ensures) _ (form .before .terms-of .ensures) _ (form .form-by .ensures) _ _
-    (a .amounts .now) _ (a .total .now) (a .further .now) (sym (ap numbersMean (c .before .sum .given .1)) ∙ numbers .numbers-of .ensures) (call .allocate .ensures)
+returns-2 c = called (c .before .before .before) _ (sym (ap numbersMean (c .before .sum .given .1)))
 
 same-length-2 : tie.Need-same-length-2
 same-length-2 c = search needs
 
 returns-3 : tie.Need-returns-3
-returns-3 c = let numbers = c .before .before .before in
-    let call = numbers .before .before .before in
-    let form = call .before .before in
-    let named = form .before .before .before in
-    let by = named .before .before in
-    let a = by .before .before .before .before .before .args in
-    allocate-known (a .method) (a .form) (a .exercised) (a .draw) (a .codes .now) (a .accounts .now) (a .numbers .now) _ (sym (ap namedMeans (named .named .given .1)) ∙ by .method-by .ensures) _ (form .before .terms-of .ensures) _ (form .form-by .ensures) _ _
-    (a .amounts .now) _ (a .total .now) (a .further .now) (sym (ap numbersMean (c .before .number .given .1)) ∙ numbers .numbers-of .ensures) (call .allocate .ensures)
+returns-3 c = called (c .before .before .before) _ (sym (ap numbersMean (c .before .number .given .1)))
 
 pub dilbreth-allocate-spec : {M : Type 1} → statement M
 dilbreth-allocate-spec =

@@ -13,6 +13,17 @@ use borrow.Author.Needs.{needs}
 use Rattle.form_change.proofs.change_lasts.Statement.{statement}
 use Rattle.form_change.proofs.change_lasts.Tie as tie
 
+-- the function's entry, from where the shorts are filled in, and from where the list is judged
+abbrev start : tie.After-fill-shorts → tie.Start
+start c = c .before .before .before .before .before .before .before
+
+abbrev filled : tie.After-judge-list → tie.After-fill-shorts
+filled c = c .before .before .before .before
+
+-- the list of last numbers, and its shorts
+abbrev listed : tie.After-judge-list → Listing
+listed c = let a = start (filled c) .args in record { form = Form.LastNumbers; terms = a .terms; codes = a .codes .now; accounts = a .accounts .now; numbers = a .lasts .now }
+
 fill-shorts-requires : tie.Need-fill-shorts-requires
 fill-shorts-requires c κs = search needs
 
@@ -35,13 +46,11 @@ same-length : tie.Need-same-length
 same-length c = search needs
 
 returns : tie.Need-returns
-returns c = let f = c .before .before .before .before .before .before .before .before in
-    let s = f .before .before .before .before .before .before .before in
-    let a = s .args in
-    let l : Listing = record { form = Form.LastNumbers; terms = a .terms; codes = a .codes .now; accounts = a .accounts .now; numbers = a .lasts .now } in
-    let filled = fill-whole (a .lasts .now) (a .shorts .now) _ (s .pre) (f .fill-shorts .ensures) in
-    refused-writes (changedInto l (length (a .output .now))) (a .output .now) _
-    (list-refused l (length (a .output .now)) _ _ (ap judgedOf (sym (c .before .before .refusal .given .1)) ∙ c .before .before .before .before .judge-list .ensures ∙ ap (listVerdict (a .terms .method) (a .codes .now) (a .accounts .now)) filled) (c .refusal-in .ensures))
+returns c = let judge = c .before .before .before .before in
+    let a = start (filled judge) .args in
+    let shorts = fill-whole (a .lasts .now) (a .shorts .now) _ (start (filled judge) .pre) (filled judge .fill-shorts .ensures) in
+    refused-writes (changedInto (listed judge) (length (a .output .now))) (a .output .now) _
+    (list-refused (listed judge) (length (a .output .now)) _ _ (ap judgedOf (sym (c .before .before .refusal .given .1)) ∙ judge .judge-list .ensures ∙ ap (listVerdict (a .terms .method) (a .codes .now) (a .accounts .now)) shorts) (c .refusal-in .ensures))
 
 same-length-2 : tie.Need-same-length-2
 same-length-2 c = search needs
@@ -50,13 +59,11 @@ same-length-3 : tie.Need-same-length-3
 same-length-3 c = search needs
 
 returns-2 : tie.Need-returns-2
-returns-2 c = let judge = c .before .before .before .before .before .before .before in
-    let f = judge .before .before .before .before in
-    let s = f .before .before .before .before .before .before .before in
-    let a = s .args in
-    let l : Listing = record { form = Form.LastNumbers; terms = a .terms; codes = a .codes .now; accounts = a .accounts .now; numbers = a .lasts .now } in
-    let filled = fill-whole (a .lasts .now) (a .shorts .now) _ (s .pre) (f .fill-shorts .ensures) in
-    written-other l _ _ (a .output .now) _ _ (ap judgedOf (sym (c .before .before .before .before .before .enum-told .given .1)) ∙ judge .judge-list .ensures ∙ ap (listVerdict (a .terms .method) (a .codes .now) (a .accounts .now)) filled) filled (c .before .before .write .ensures)
+returns-2 c = let told = c .before .before .before .before .before in
+    let judge = told .before .before in
+    let a = start (filled judge) .args in
+    let shorts = fill-whole (a .lasts .now) (a .shorts .now) _ (start (filled judge) .pre) (filled judge .fill-shorts .ensures) in
+    written-other (listed judge) _ _ (a .output .now) _ _ (ap judgedOf (sym (told .enum-told .given .1)) ∙ judge .judge-list .ensures ∙ ap (listVerdict (a .terms .method) (a .codes .now) (a .accounts .now)) shorts) shorts (c .before .before .write .ensures)
 
 pub change-lasts-spec : {M : Type 1} → statement M
 change-lasts-spec =

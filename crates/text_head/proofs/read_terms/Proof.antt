@@ -25,19 +25,23 @@ first c = found-at _ _ _ _ _ (c .before .comma .given .1) (c .before .before .be
 asked : (k : ℕ) → k ≤ 2 → length {A = ℕ} (take k (0 ∷ 0 ∷ [])) ≡ k
 asked k few = length-take-le k (0 ∷ 0 ∷ []) few
 
+-- the function's entry, from where the numbers are read
+abbrev start : tie.After-read-row → tie.Start
+start c = c .before .before .before .before .before .before .before
+
 -- the numbers after it
-numbers : (c : tie.After-read-row) → let a = c .before .before .before .before .before .before .before .args in
+numbers : (c : tie.After-read-row) → let a = start c .args in
     rowMeans (a .text .now) (c .read-row .last .1 .1 .0) (c .read-row .result) ≡ readRow (a .numbers) (drop (c .before .before .before .comma .given .0 .0 + 1) (a .text .now))
-numbers c = let start = c .before .before .before .before .before .before .before in rw (asked (start .args .numbers) (start .pre)) at (c .read-row .ensures .means)
+numbers c = rw (asked (start c .args .numbers) (start c .pre)) at (c .read-row .ensures .means)
 
 -- they are there
 told : (c : tie.After-known-told2) → let read = c .before .before .before .before in
-    let a = read .before .before .before .before .before .before .before .args in
+    let a = start read .args in
     value (record { found = read .read-row .last .1 .1 .0; rest = drop (c .before .next .given .0 .0) (a .text .now) }) ≡ readRow (a .numbers) (drop (read .before .before .before .comma .given .0 .0 + 1) (a .text .now))
 told c = ap (rowMeans _ _) (sym (c .before .next .given .1)) ∙ numbers (c .before .before .before .before)
 
 -- line 2 is passed
-onward : (c : tie.After-known-told2) → let a = c .before .before .before .before .before .before .before .before .before .before .before .args in Onward (a .text .now) (a .at) (c .before .next .given .0 .0)
+onward : (c : tie.After-known-told2) → let a = start (c .before .before .before .before) .args in Onward (a .text .now) (a .at) (c .before .next .given .0 .0)
 onward c = let read = c .before .before .before .before in
     let f = first (read .before .before) in
     onward-more _ _ _ _ (onward-byte _ _ _ (f .after) (f .within)) (subst (rowOnward _ _) (c .before .next .given .1) (read .read-row .ensures .onward))
@@ -61,7 +65,7 @@ array-borrow-prefix-values : tie.Need-array-borrow-prefix-values
 array-borrow-prefix-values c = search needs
 
 slice-aggregate-read-row : tie.Need-slice-aggregate-read-row
-slice-aggregate-read-row c = let start = c .before .before .before .before .before .before in sym (asked (start .args .numbers) (start .pre))
+slice-aggregate-read-row c = let entry = c .before .before .before .before .before .before in sym (asked (entry .args .numbers) (entry .pre))
 
 read-row-requires : tie.Need-read-row-requires
 read-row-requires c κs = search needs
@@ -108,7 +112,7 @@ returns-4 c = let known = c .before in
     let row = known .before .before .before .before in
     let read = row .before .before .before .before in
     let ns = read .read-row .last .1 .1 .0 in
-    let k = read .before .before .before .before .before .before .before .args .numbers in
+    let k = start read .args .numbers in
     let method = ap namedMeans (sym (known .before .method .given .1)) ∙ known .before .before .before .read-method .ensures in
     rw (c .terms-of .ensures, values-read ns k 0, values-read ns k 1)
     (record { means = terms-all _ _ (first (read .before .before) .reads) method (told row); onward = onward row })

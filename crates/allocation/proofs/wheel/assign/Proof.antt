@@ -7,6 +7,10 @@ use Rattle.allocation.proofs.BlockLaws.{whole-blocks, blocks-fit, block
 use Rattle.allocation.proofs.wheel.assign.Statement.{statement}
 use Rattle.allocation.proofs.wheel.assign.Tie as tie
 
+-- the function's entry, from where the blocks are counted
+abbrev start : tie.After-block-count → tie.Start
+start c = c .before .before .before .before .before .before .before .before .before .before
+
 copy-requires : tie.Need-copy-requires
 copy-requires c κs = search needs
 
@@ -32,38 +36,42 @@ last-block-requires c κs = search needs
 
 seek-requires : tie.Need-seek-requires
 seek-requires c κs =
-    let asked = c .before .before .before .before .before .before .before .before .before .before .before .pre in
+    let asked = start (c .before) .pre in
     rw (← asked .0 .sum) (asked .1 .1 (c .before .before .before .before .before .before .if1 .left))
 
 interval-requires : tie.Need-interval-requires
 interval-requires c κs =
-    let asked = c .before .before .before .before .before .before .before .before .before .before .before .before .pre in
-    (asked .0 .small, whole-blocks _ _ _ (asked .1 .0) (asked .0 .some) (c .before .before .block-count .ensures) .0)
+    let counted = c .before .before in
+    let asked = start counted .pre in
+    (asked .0 .small, whole-blocks _ _ _ (asked .1 .0) (asked .0 .some) (counted .block-count .ensures) .0)
 
 zero-requires : tie.Need-zero-requires
 zero-requires c κs = search needs
 
 assign-blocks-requires : tie.Need-assign-blocks-requires
 assign-blocks-requires c κs =
-    let asked = c .before .before .before .before .before .before .before .before .before .before .before .before .before .before .before .pre in
-    let differ = c .before .before .before .before .before .before .before .before .before .before .if1 .left in
-    let cleared = c .before .before .before .before .before .before .before .before .clear .ensures in
+    let counted = c .before .before .before .before .before in
+    let asked = start counted .pre in
+    let differ = counted .before .before .before .before .before .if1 .left in
+    let cleared = counted .before .before .before .clear .ensures in
     let interval = c .before .before .interval .ensures in
-    blocks-fit _ _ _ _ _ _ _ _ _ _ (asked .0) (asked .1 .0) (omega (arith, asked .0 .most)) (c .before .before .before .seek .ensures) cleared (c .before .before .before .before .before .block-count .ensures) (c .before .before .before .before .last-block .ensures) (interval .0) (interval .1) (c .before .zero .ensures)
+    blocks-fit _ _ _ _ _ _ _ _ _ _ (asked .0) (asked .1 .0) (omega (arith, asked .0 .most)) (c .before .before .before .seek .ensures) cleared (counted .block-count .ensures) (c .before .before .before .before .last-block .ensures) (interval .0) (interval .1) (c .before .zero .ensures)
 
 same-length-2 : tie.Need-same-length-2
 same-length-2 c = search needs
 
 returns-2 : tie.Need-returns-2
 returns-2 c =
-    let asked = c .before .before .before .before .before .before .before .before .before .before .before .before .before .before .before .before .before .before .pre in
-    let differ = c .before .before .before .before .before .before .before .before .before .before .before .before .before .if1 .left in
-    let count = c .before .before .before .before .before .before .before .before .block-count .ensures in
-    let cleared = c .before .before .before .before .before .before .before .before .before .before .before .clear .ensures in
-    let last = c .before .before .before .before .before .before .before .last-block .ensures in
-    let interval = c .before .before .before .before .before .interval .ensures in (
+    let blocks = c .before .before in
+    let counted = blocks .before .before .before .before .before .before in
+    let asked = start counted .pre in
+    let differ = counted .before .before .before .before .before .if1 .left in
+    let count = counted .block-count .ensures in
+    let cleared = counted .before .before .before .clear .ensures in
+    let last = blocks .before .before .before .before .before .last-block .ensures in
+    let interval = blocks .before .before .before .interval .ensures in (
       count ∙ used-part _ _ _ (omega (arith, asked .0 .most)),
-      blocks-give _ _ _ _ _ _ _ _ _ _ (asked .0) (asked .1 .0) (omega (arith, asked .0 .most)) (c .before .before .before .before .before .before .seek .ensures) cleared count last (interval .0) (interval .1) (c .before .before .before .before .zero .ensures) _ (c .before .before .assign-blocks .ensures),
+      blocks-give _ _ _ _ _ _ _ _ _ _ (asked .0) (asked .1 .0) (omega (arith, asked .0 .most)) (blocks .before .before .before .before .seek .ensures) cleared count last (interval .0) (interval .1) (blocks .before .before .zero .ensures) _ (blocks .assign-blocks .ensures),
     )
 
 pub assign-spec : {M : Type 1} → statement M
