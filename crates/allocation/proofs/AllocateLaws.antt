@@ -15,7 +15,7 @@ use Rattle.series.specs.Wheel.{wheel, blocksUsed}
 use Rattle.series.specs.Lottery.{lottery, unstarted, lotteryAmounts, startUsed}
 use Rattle.series.specs.Refusals.{NoneApplies, thenDrawRows, verdict}
 use Rattle.series.specs.Answers.{Allocation}
-use Rattle.series.specs.Call.{INCREMENT, assigned, further}
+use Rattle.series.specs.Call.{assigned, further}
 use Rattle.series.specs.Fair.{AllocatingCall}
 use Rattle.series.specs.declared.Method.{Method}
 use Rattle.series.specs.declared.Terms.{Terms}
@@ -51,11 +51,11 @@ module _ (t : Terms) (hs out : List ℕ) (T : ℕ) (judged : JudgedSeries hs T (
   abbrev S : ℕ
   S = t .exercised .0
 
-  pub wheel-gives : t .method ≡ Method.Wheel → (b : ℕ) (vs : List ℕ) → b ≡ blocksUsed INCREMENT T S → vs ≡ wheel INCREMENT hs S (t .draw) → Assigns t hs (answered-by Method.Wheel T (some b)) vs
+  pub wheel-gives : t .method ≡ Method.Wheel → (b : ℕ) (vs : List ℕ) → b ≡ blocksUsed (t .increment .0) T S → vs ≡ wheel (t .increment .0) hs S (t .draw) → Assigns t hs (answered-by Method.Wheel T (some b)) vs
   unfolding further assigned
   wheel-gives e b vs eb ev =
       record {
-        answered = rw e (ap₂ (λ x f. answered-by Method.Wheel x (some f)) (judged .sum) (eb ∙ ap (λ x. blocksUsed INCREMENT x S) (judged .sum)));
+        answered = rw e (ap₂ (λ x f. answered-by Method.Wheel x (some f)) (judged .sum) (eb ∙ ap (λ x. blocksUsed (t .increment .0) x S) (judged .sum)));
         written = rw e ev;
       }
 

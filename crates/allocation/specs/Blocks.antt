@@ -5,7 +5,7 @@ use mathlib.Core.List.{List}
 use lib.ListN.{length, getD}
 use Rattle.series.specs.Series.{MOST_CONTRACTS}
 use Rattle.series.specs.Places.{total, before, last, marked}
-use Rattle.series.specs.Wheel.{ONE, marks}
+use Rattle.series.specs.Wheel.{ONE, MOST_INCREMENT, marks}
 use Rattle.allocation.specs.Millionths.{millionths, Carried}
 use Rattle.allocation.specs.Stretch.{OnList, Stands, placeOf}
 use Rattle.allocation.specs.declared.wheel.Wheel.{Wheel}
@@ -44,4 +44,4 @@ pub record BlocksFit (hs out : List ℕ) (w : Wheel) (blocks I l : ℕ) : Type 0
 -- an increment of 1 to 1,000
 pub record Increment (I : ℕ) : Type 0 where
   pub some : 0 < I
-  pub most : I ≤ 1000
+  pub most : I ≤ MOST_INCREMENT

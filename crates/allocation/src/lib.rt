@@ -8,6 +8,7 @@ mod wheel;
 use judging::Judged;
 use series::Answer;
 use series::Contracts;
+use series::DEFAULT_INCREMENT;
 use series::Method;
 use series::Terms;
 use series::terms_of;
@@ -19,26 +20,24 @@ ghost use Prim.Native.Nat.{ℕ};
 ghost use mathlib.Core.List.{List};
 ghost use Rattle.series.specs.Answers.{answerOf};
 ghost use Rattle.series.specs.Fair.{AllocatingCall};
-ghost use Rattle.series.specs.Series.{Given};
+ghost use Rattle.series.specs.Series.{termsOf, Given};
 ghost use Rattle.series.specs.declared.Method.{Method as Method·};
 ghost use Rattle.series.specs.declared.Terms.{Terms as Terms·};
 ghost use Rattle.starts.specs.Starts.{methodFor};
 
-// The assignment increment.
-const INCREMENT: u32 = 25;
-
-// The call by the wheel, by terms that have this S and draw.
+// The call by the wheel.
 fn allocate_wheel(
     exercised: Contracts,
     draw: u32,
+    increment: Contracts,
     codes: &[u32],
     accounts: &[u32],
     shorts: &[u32],
     amounts: &mut [u32],
 ) -> Answer
-    ensures { λ r. ⌜ ((t : Terms·) → Given t Method·.Wheel (exercised .0) draw → AllocatingCall (record { terms = t; codes = now (codes .entry); accounts = now (accounts .entry); shorts = now (shorts .entry) }) (answerOf r) (now (amounts .entry)) (now (amounts .exit))) ⌝ }
+    ensures { λ r. ⌜ AllocatingCall (record { terms = termsOf Method·.Wheel (exercised .0) draw (increment .0); codes = now (codes .entry); accounts = now (accounts .entry); shorts = now (shorts .entry) }) (answerOf r) (now (amounts .entry)) (now (amounts .exit)) ⌝ }
 {
-    let terms = terms_of(Method::Wheel, exercised, draw);
+    let terms = terms_of(Method::Wheel, exercised, draw, increment);
     match judging::judge(terms, codes, accounts, shorts, amounts.len()) {
         Judged::Refused(refusal) => Answer::Refused(refusal),
         Judged::Accepted(total) => {
@@ -48,7 +47,7 @@ fn allocate_wheel(
                 total,
                 exercised,
                 draw,
-                Contracts(INCREMENT),
+                increment,
                 &mut amounts[..n],
             );
             Answer::Wheel { total, blocks }
@@ -56,7 +55,7 @@ fn allocate_wheel(
     }
 }
 
-// The call by L or R, by terms that have this S and draw, whatever the codes.
+// The call by L or R, by terms that have this S and draw, whatever the codes and the increment.
 fn allocate_started(
     by: StartBy,
     exercised: Contracts,
@@ -67,7 +66,12 @@ fn allocate_started(
 ) -> Answer
     ensures { λ r. ⌜ ((t : Terms·) (codes : List ℕ) → Given t (methodFor by) (exercised .0) draw → AllocatingCall (record { terms = t; codes = codes; accounts = now (accounts .entry); shorts = now (shorts .entry) }) (answerOf r) (now (amounts .entry)) (now (amounts .exit))) ⌝ }
 {
-    let terms = terms_of(method_for(by), exercised, draw);
+    let terms = terms_of(
+        method_for(by),
+        exercised,
+        draw,
+        Contracts(DEFAULT_INCREMENT),
+    );
     match judging::judge_uncoded(terms, accounts, shorts, amounts.len()) {
         Judged::Refused(refusal) => Answer::Refused(refusal),
         Judged::Accepted(total) => {
@@ -99,7 +103,15 @@ pub fn allocate(
     let exercised = terms.exercised;
     let draw = terms.draw;
     match method {
-        Method::Wheel => allocate_wheel(exercised, draw, codes, accounts, shorts, amounts),
+        Method::Wheel => allocate_wheel(
+            exercised,
+            draw,
+            terms.increment,
+            codes,
+            accounts,
+            shorts,
+            amounts,
+        ),
         Method::ProRata => pro_rata::allocate(exercised, draw, accounts, shorts, amounts),
         _ => {
             let by = start_by(method);

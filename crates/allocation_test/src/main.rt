@@ -1,12 +1,13 @@
 // Calls of the allocating call, a line for each: a label, the answer, and every element of an output that held 7 eight times. Then lists and calls that are only judged.
 // The calls stand in the file stdin, a line for each; a line that begins with `#` says what the next ones are.
-// A line is a label and a colon, a letter (a: allocated, b: allocated by last numbers, l: only the list is judged, m: only the list of last numbers is judged, j: the call is judged), the method's letter, and four lists, each ended by a semicolon: S, the draw and the room; codes; accounts; shorts or last numbers.
+// A line is a label and a colon, a letter (a: allocated, b: allocated by last numbers, l: only the list is judged, m: only the list of last numbers is judged, j: the call is judged), the method's letter, and four lists, each ended by a semicolon: S, the draw, the room and, where it is not 25, the increment; codes; accounts; shorts or last numbers.
 // A space ends each number, and `4097*` stands for so many ones.
 use forms::Form;
 use judging::Judged;
 use judging::judge;
 use series::Answer;
 use series::Contracts;
+use series::DEFAULT_INCREMENT;
 use series::Method;
 use series::Refusal;
 use series::Terms;
@@ -174,7 +175,7 @@ fn list_at(text: &[u8], at: usize, list: &mut [u32]) -> Listed
 
 // Shows what the lists of a line come to: they begin at an index.
 fn show_lists(text: &[u8], at: usize, letter: u8, method: Method) {
-    let mut values = [0u32; 3];
+    let mut values = [0, 0, 0, DEFAULT_INCREMENT];
     let mut codes = [1u32; 4097];
     let mut accounts = [1u32; 4097];
     let mut numbers = [1u32; 4097];
@@ -182,7 +183,12 @@ fn show_lists(text: &[u8], at: usize, letter: u8, method: Method) {
     let second = list_at(text, first.next, &mut codes);
     let third = list_at(text, second.next, &mut accounts);
     let fourth = list_at(text, third.next, &mut numbers);
-    let terms = terms_of(method, Contracts(values[0]), values[1]);
+    let terms = terms_of(
+        method,
+        Contracts(values[0]),
+        values[1],
+        Contracts(values[3]),
+    );
     let coded = second.length;
     let listed = third.length;
     let numbered = fourth.length;

@@ -1,4 +1,4 @@
--- All that is printed for a text stands in an output of 31,809 bytes.
+-- All that is printed for a text stands in an output of 31,830 bytes.
 use Prim.Native.Nat.{ℕ, _≤_}
 use mathlib.Core.Path.{_≡_, refl, sym, ap, _∙_}
 use native.Mathlib.Omega.{arith}

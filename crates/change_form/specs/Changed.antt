@@ -9,6 +9,6 @@ unfoldable pub linesOf : Result Text → Text
 linesOf (value t) = t
 linesOf (refused n) = refusedLines n
 
--- what is printed for a text, whose change always fits 31,809 bytes
+-- what is printed for a text, whose change always fits 31,830 bytes
 unfoldable pub changedLines : Text → Text
 changedLines s = linesOf (changeInto s MOST_CHANGED)

@@ -16,10 +16,10 @@ const PROGRAM: [u8; 11] = *b"change_form";
 const NOT_WHOLE: [u8; 62] = *b"the text on standard output is not whole and must not be used\n";
 
 // Room for all that can be printed: no changed text is longer.
-fn output_buffer() -> [u8; 31809]
+fn output_buffer() -> [u8; 31830]
     ensures { λ r. ⌜ MOST_CHANGED ≤ length r ⌝ }
 {
-    [0; 31809]
+    [0; 31830]
 }
 
 // Changes a text: all that is printed for it stands in the output, and the refusal that it tells, if any, is answered.

@@ -23,11 +23,11 @@ use Rattle.dilbreth.specs.Days.{dayBy}
 
 -- a listing of one position by a letter and the number of a form
 abbrev listed : ℕ → ℕ → Result Listing
-listed l f = listingBy l f 4 5 (1 ∷ []) (2 ∷ []) (3 ∷ [])
+listed l f = listingBy l 4 5 6 f (1 ∷ []) (2 ∷ []) (3 ∷ [])
 
 -- the same, of a method and a form
 abbrev listing : Method → Form → Result Listing
-listing m f = value (record { form = f; terms = termsOf m 4 5; codes = 1 ∷ []; accounts = 2 ∷ []; numbers = 3 ∷ [] })
+listing m f = value (record { form = f; terms = termsOf m 4 5 6; codes = 1 ∷ []; accounts = 2 ∷ []; numbers = 3 ∷ [] })
 
 -- each letter, and any other; 0 is the form of shorts, any other number that of last numbers
 pub letters-and-forms : map (λ l. listed l 0) (ascii "WPLRwX") ≡ listing Method.Wheel Form.Shorts ∷ listing Method.ProRata Form.Shorts ∷ listing Method.Lottery Form.Shorts ∷ listing Method.RemainderDraw Form.Shorts ∷ refused 14 ∷ refused 14 ∷ []
@@ -39,7 +39,7 @@ unfolding letter methodAmong methodBy formBy listingBy
 forms-by-number = refl
 
 -- 14 before lists that differ in length and an output without room, in writing and in the allocating call
-pub letter-first : (status (writtenBy (listingBy (code "X") 0 0 0 (1 ∷ []) [] []) 0) ≡ 14) × (status (called (listingBy (code "X") 0 0 0 (1 ∷ []) [] []) 0) ≡ 14)
+pub letter-first : (status (writtenBy (listingBy (code "X") 0 0 0 0 (1 ∷ []) [] []) 0) ≡ 14) × (status (called (listingBy (code "X") 0 0 0 0 (1 ∷ []) [] []) 0) ≡ 14)
 unfolding letter methodAmong methodBy listingBy writtenBy called
 letter-first = (refl, refl)
 

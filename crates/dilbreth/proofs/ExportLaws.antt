@@ -45,21 +45,21 @@ unfolding handedNumbers
 further-is (refused n) f = refl
 further-is (value x) f = refl
 
-module _ (l f S draw : ℕ) (codes accounts numbers : List ℕ) where
-  by-unknown : refused 14 ≡ methodBy l → listingBy l f S draw codes accounts numbers ≡ refused 14
+module _ (l S draw I f : ℕ) (codes accounts numbers : List ℕ) where
+  by-unknown : refused 14 ≡ methodBy l → listingBy l S draw I f codes accounts numbers ≡ refused 14
   unfolding listingBy
   by-unknown e = rw (← e)
 
-  by-known : (m : Method) → value m ≡ methodBy l → listingBy l f S draw codes accounts numbers ≡ value (record { form = formBy f; terms = termsOf m S draw; codes = codes; accounts = accounts; numbers = numbers })
+  by-known : (m : Method) → value m ≡ methodBy l → listingBy l S draw I f codes accounts numbers ≡ value (record { form = formBy f; terms = termsOf m S draw I; codes = codes; accounts = accounts; numbers = numbers })
   unfolding listingBy
   by-known m e = rw (← e)
 
-  pub allocate-unknown : refused 14 ≡ methodBy l → (old : List ℕ) (T k : ℕ) → Allocates (listingBy l f S draw codes accounts numbers) 14 old old (lent T T) (lent k k)
+  pub allocate-unknown : refused 14 ≡ methodBy l → (old : List ℕ) (T k : ℕ) → Allocates (listingBy l S draw I f codes accounts numbers) 14 old old (lent T T) (lent k k)
   unfolding called
   allocate-unknown e old T k = rw (by-unknown e) (record { answers = refl; writes = refl; hands-total = refl; hands-further = refl })
 
-  pub allocate-known : (m : Method) → value m ≡ methodBy l → (t : Terms) → t ≡ termsOf m S draw → (g : Form) → g ≡ formBy f → (a : Result Allocation) (h : Result Handing) (old new : List ℕ) (T k : ℕ) → h ≡ handedNumbers a → ListingCall (record { form = g; terms = t; codes = codes; accounts = accounts; numbers = numbers }) a old new
-      → Allocates (listingBy l f S draw codes accounts numbers) (status h) old new (record { old = T; new = after h (λ x. x .total) T }) (record { old = k; new = after h (λ x. x .further) k })
+  pub allocate-known : (m : Method) → value m ≡ methodBy l → (t : Terms) → t ≡ termsOf m S draw I → (g : Form) → g ≡ formBy f → (a : Result Allocation) (h : Result Handing) (old new : List ℕ) (T k : ℕ) → h ≡ handedNumbers a → ListingCall (record { form = g; terms = t; codes = codes; accounts = accounts; numbers = numbers }) a old new
+      → Allocates (listingBy l S draw I f codes accounts numbers) (status h) old new (record { old = T; new = after h (λ x. x .total) T }) (record { old = k; new = after h (λ x. x .further) k })
   unfolding called
   allocate-known m e t et g eg a h old new T k eh call =
       let ea = call .answered in
@@ -71,21 +71,22 @@ module _ (l f S draw : ℕ) (codes accounts numbers : List ℕ) where
         hands-further = further-is a k ∙ ap (λ r. after r (λ x. handedBack (x .further)) k) ea;
       })
 
-  pub write-unknown : refused 14 ≡ methodBy l → (old : Text) (n : ℕ) → Writes (writtenBy (listingBy l f S draw codes accounts numbers) (length old)) 14 old old (lent n n)
+  pub write-unknown : refused 14 ≡ methodBy l → (old : Text) (n : ℕ) → Writes (writtenBy (listingBy l S draw I f codes accounts numbers) (length old)) 14 old old (lent n n)
   unfolding writtenBy lengthOf
   write-unknown e old n = rw (by-unknown e) (record { hands-length = record { answers = refl; hands-number = refl }; writes = refl })
 
-  pub write-known : (m : Method) → value m ≡ methodBy l → (t : Terms) → t ≡ termsOf m S draw → (g : Form) → g ≡ formBy f → (a : Result ℕ) (r : ℕ) (old new : Text) (written : Lent ℕ) → WritingCall (writeInto (record { form = g; terms = t; codes = codes; accounts = accounts; numbers = numbers }) (length old)) a old new → Hands a r written
-      → Writes (writtenBy (listingBy l f S draw codes accounts numbers) (length old)) r old new written
+  pub write-known : (m : Method) → value m ≡ methodBy l → (t : Terms) → t ≡ termsOf m S draw I → (g : Form) → g ≡ formBy f → (a : Result ℕ) (r : ℕ) (old new : Text) (written : Lent ℕ) → WritingCall (writeInto (record { form = g; terms = t; codes = codes; accounts = accounts; numbers = numbers }) (length old)) a old new → Hands a r written
+      → Writes (writtenBy (listingBy l S draw I f codes accounts numbers) (length old)) r old new written
   unfolding writtenBy
   write-known m e t et g eg a r old new written call hands = rw (by-known m e, ← et, ← eg) (by-length _ a r old new written call hands)
 
 -- what reading hands back
-pub read-hands : (s : Result Listing) (h : Result Handed) (codes accounts numbers : Lent (List ℕ)) (l S d f p : ℕ) → h ≡ handed s → ListsRead s codes accounts numbers
-    → Reads s (status h) codes accounts numbers (lent l (after h (λ x. letter (x .terms .method)) l)) (lent S (after h (λ x. x .terms .exercised .0) S)) (lent d (after h (λ x. x .terms .draw) d)) (lent f (after h (λ x. formNumber (x .form)) f)) (lent p (after h (λ x. x .positions) p))
+pub read-hands : (s : Result Listing) (h : Result Handed) (codes accounts numbers : Lent (List ℕ)) (l S d I f p : ℕ) → h ≡ handed s → ListsRead s codes accounts numbers
+    → Reads s (status h) (lent l (after h (λ x. letter (x .terms .method)) l)) (lent S (after h (λ x. x .terms .exercised .0) S)) (lent d (after h (λ x. x .terms .draw) d)) (lent I (after h (λ x. x .terms .increment .0) I)) (lent f (after h (λ x. formNumber (x .form)) f))
+    codes accounts numbers (lent p (after h (λ x. x .positions) p))
 unfolding handed
-read-hands (refused n) h codes accounts numbers l S d f p e lists = rw e (record { lists = lists; answers = refl; hands-letter = refl; hands-exercised = refl; hands-draw = refl; hands-form = refl; hands-positions = refl })
-read-hands (value t) h codes accounts numbers l S d f p e lists = rw e (record { lists = lists; answers = refl; hands-letter = refl; hands-exercised = refl; hands-draw = refl; hands-form = refl; hands-positions = refl })
+read-hands (refused n) h codes accounts numbers l S d I f p e lists = rw e (record { answers = refl; hands-letter = refl; hands-exercised = refl; hands-draw = refl; hands-increment = refl; hands-form = refl; lists = lists; hands-positions = refl })
+read-hands (value t) h codes accounts numbers l S d I f p e lists = rw e (record { answers = refl; hands-letter = refl; hands-exercised = refl; hands-draw = refl; hands-increment = refl; hands-form = refl; lists = lists; hands-positions = refl })
 
 -- ---- printing
 

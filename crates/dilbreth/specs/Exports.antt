@@ -16,11 +16,11 @@ use Rattle.text_rules.specs.Letters.{letter, methodBy}
 use Rattle.text_rules.specs.Calls.{ListsRead, writeInto, lengthOf}
 use Rattle.responses.specs.Printed.{printed}
 
--- the listing whose method comes as its letter and whose form as its number; any other letter is 14 before all other refusals
-unfoldable pub listingBy : ℕ → ℕ → ℕ → ℕ → List ℕ → List ℕ → List ℕ → Result Listing
-listingBy l f S draw codes accounts numbers = do
+-- the listing whose method comes as its letter, with S, the draw and the increment, and whose form as its number; any other letter is 14 before all other refusals
+unfoldable pub listingBy : ℕ → ℕ → ℕ → ℕ → ℕ → List ℕ → List ℕ → List ℕ → Result Listing
+listingBy l S draw I f codes accounts numbers = do
   m ← methodBy l
-  value (record { form = formBy f; terms = termsOf m S draw; codes = codes; accounts = accounts; numbers = numbers })
+  value (record { form = formBy f; terms = termsOf m S draw I; codes = codes; accounts = accounts; numbers = numbers })
 
 -- the allocating call's answer, with an output of length room
 unfoldable pub called : Result Listing → ℕ → Result Allocation
@@ -35,14 +35,15 @@ pub record Allocates (s : Result Listing) (r : ℕ) (old new : List ℕ) (total 
   pub hands-total : total .new ≡ after (called s (length old)) (λ a. a .total) (total .old)
   pub hands-further : further .new ≡ after (called s (length old)) (λ a. handedBack (a .further)) (further .old)
 
--- a call that reads a listing s: its answer r, its three lists, and what it hands back: the letter of the method, S, the draw, the number of the form and the number of positions
-pub record Reads (s : Result Listing) (r : ℕ) (codes accounts numbers : Lent (List ℕ)) (letters exercised draw form positions : Lent ℕ) : Type 0 where
-  pub lists : ListsRead s codes accounts numbers
+-- a call that reads a listing s: its answer r, and what it hands back: the letter of the method, S, the draw, the increment, the number of the form, its three lists and the number of positions
+pub record Reads (s : Result Listing) (r : ℕ) (letters exercised draw increment form : Lent ℕ) (codes accounts numbers : Lent (List ℕ)) (positions : Lent ℕ) : Type 0 where
   pub answers : r ≡ status s
   pub hands-letter : letters .new ≡ after s (λ t. letter (t .terms .method)) (letters .old)
   pub hands-exercised : exercised .new ≡ after s (λ t. t .terms .exercised .0) (exercised .old)
   pub hands-draw : draw .new ≡ after s (λ t. t .terms .draw) (draw .old)
+  pub hands-increment : increment .new ≡ after s (λ t. t .terms .increment .0) (increment .old)
   pub hands-form : form .new ≡ after s (λ t. formNumber (t .form)) (form .old)
+  pub lists : ListsRead s codes accounts numbers
   pub hands-positions : positions .new ≡ after s (λ t. length (t .accounts)) (positions .old)
 
 -- the text of such a listing, written to an output of length room

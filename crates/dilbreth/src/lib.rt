@@ -21,22 +21,23 @@ ghost use Rattle.dilbreth.specs.Exports.{listingBy, Allocates, Reads, wr
 #[no_mangle]
 pub extern "C" fn dilbreth_allocate(
     method: u8,
+    exercised: u32,
+    draw: u32,
+    increment: u32,
     form: u32,
     codes: &[u32],
     accounts: &[u32],
     numbers: &[u32],
-    exercised: u32,
-    draw: u32,
     amounts: &mut [u32],
     total: &mut u32,
     further: &mut u32,
 ) -> u32
-    ensures { λ r. ⌜ Allocates (listingBy method form exercised draw (now (codes .entry)) (now (accounts .entry)) (now (numbers .entry))) r (now (amounts .entry)) (now (amounts .exit)) (lent (now (total .entry)) (now (total .exit))) (lent (now (further .entry)) (now (further .exit))) ⌝ }
+    ensures { λ r. ⌜ Allocates (listingBy method exercised draw increment form (now (codes .entry)) (now (accounts .entry)) (now (numbers .entry))) r (now (amounts .entry)) (now (amounts .exit)) (lent (now (total .entry)) (now (total .exit))) (lent (now (further .entry)) (now (further .exit))) ⌝ }
 {
     let Named::Method(named) = text_words::letters::method_by(method) else {
         return 14;
     };
-    let terms = terms_of(named, Contracts(exercised), draw);
+    let terms = terms_of(named, Contracts(exercised), draw, Contracts(increment));
     let listed = answer_numbers::form_by(form);
     let answer = listing::allocate(listed, terms, codes, accounts, numbers, amounts);
     match numbers_of(answer) {
@@ -56,19 +57,21 @@ pub extern "C" fn dilbreth_allocate(
 #[no_mangle]
 pub extern "C" fn dilbreth_read(
     text: &[u8],
-    codes: &mut [u32],
-    accounts: &mut [u32],
-    numbers: &mut [u32],
     method: &mut u8,
     exercised: &mut u32,
     draw: &mut u32,
+    increment: &mut u32,
     form: &mut u32,
+    codes: &mut [u32],
+    accounts: &mut [u32],
+    numbers: &mut [u32],
     positions: &mut usize,
 ) -> u32
     ensures { λ r. ⌜ Reads (readInto (now (text .entry)) (length (now (codes .entry))) (length (now (accounts .entry))) (length (now (numbers .entry)))) r
-        (lent (now (codes .entry)) (now (codes .exit))) (lent (now (accounts .entry)) (now (accounts .exit))) (lent (now (numbers .entry)) (now (numbers .exit)))
         (lent (now (method .entry)) (now (method .exit))) (lent (now (exercised .entry)) (now (exercised .exit))) (lent (now (draw .entry)) (now (draw .exit)))
-        (lent (now (form .entry)) (now (form .exit))) (lent (now (positions .entry)) (now (positions .exit))) ⌝ }
+        (lent (now (increment .entry)) (now (increment .exit))) (lent (now (form .entry)) (now (form .exit)))
+        (lent (now (codes .entry)) (now (codes .exit))) (lent (now (accounts .entry)) (now (accounts .exit))) (lent (now (numbers .entry)) (now (numbers .exit)))
+        (lent (now (positions .entry)) (now (positions .exit))) ⌝ }
 {
     match series_text::read(text, codes, accounts, numbers) {
         Reading::Series {
@@ -80,6 +83,7 @@ pub extern "C" fn dilbreth_read(
             *method = text_words::letters::letter_of(named);
             *exercised = terms.exercised.0;
             *draw = terms.draw;
+            *increment = terms.increment.0;
             *form = answer_numbers::number_of(listed);
             *positions = n;
             0
@@ -107,6 +111,7 @@ pub extern "C" fn dilbreth_write(
     method: u8,
     exercised: u32,
     draw: u32,
+    increment: u32,
     form: u32,
     codes: &[u32],
     accounts: &[u32],
@@ -114,14 +119,14 @@ pub extern "C" fn dilbreth_write(
     text: &mut [u8],
     written: &mut usize,
 ) -> u32
-    ensures { λ r. ⌜ Writes (writtenBy (listingBy method form exercised draw (now (codes .entry)) (now (accounts .entry)) (now (numbers .entry))) (length (now (text .entry)))) r (now (text .entry)) (now (text .exit)) (lent (now (written .entry)) (now (written .exit))) ⌝ }
+    ensures { λ r. ⌜ Writes (writtenBy (listingBy method exercised draw increment form (now (codes .entry)) (now (accounts .entry)) (now (numbers .entry))) (length (now (text .entry)))) r (now (text .entry)) (now (text .exit)) (lent (now (written .entry)) (now (written .exit))) ⌝ }
 {
     let Named::Method(named) = text_words::letters::method_by(method) else {
         return 14;
     };
-    let terms = terms_of(named, Contracts(exercised), draw);
+    let values = terms_of(named, Contracts(exercised), draw, Contracts(increment));
     let wanted = answer_numbers::form_by(form);
-    let writing = text_writing::write(wanted, terms, codes, accounts, numbers, text);
+    let writing = text_writing::write(wanted, values, codes, accounts, numbers, text);
     hand_length(writing, written)
 }
 

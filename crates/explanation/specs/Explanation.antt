@@ -4,7 +4,11 @@ use mathlib.Core.List.{List, [], _∷_}
 use lib.ListN.{getD}
 use Rattle.series.specs.Ascii.{ascii}
 
--- the lines of the refusals 1 to 20
+-- the line of a number that is no refusal's
+unfoldable pub noRefusal : List ℕ
+noRefusal = ascii "no refusal has this number\n"
+
+-- the lines of the refusals 1 to 24, of which 21 and 22 are none's
 unfoldable pub refusals : List (List ℕ)
 refusals =
     ascii "codes, accounts and numbers differ in length\n" ∷
@@ -26,11 +30,11 @@ refusals =
     ascii "closing purchases exceed short plus opening sales\n" ∷
     ascii "more is exercised than the day's limit\n" ∷
     ascii "an account is 0 or stands earlier in the list\n" ∷
-    ascii "a last number is 0 or not above the one before\n" ∷ []
-
--- the line of any other number
-unfoldable pub noRefusal : List ℕ
-noRefusal = ascii "no refusal has this number\n"
+    ascii "a last number is 0 or not above the one before\n" ∷
+    noRefusal ∷
+    noRefusal ∷
+    ascii "the increment is 0 or above 1,000 (W)\n" ∷
+    ascii "the increment makes more than 1,000,000 blocks\n" ∷ []
 
 -- the line of a number
 unfoldable pub explanation : ℕ → List ℕ

@@ -5,7 +5,7 @@ use mathlib.Core.List.{List, [], _∷_, map}
 use lib.ListN.{length}
 use Rattle.series.specs.Results.{Result, refused, value}
 use Rattle.series.specs.Sums.{listed}
-use Rattle.series.specs.Series.{termsOf}
+use Rattle.series.specs.Series.{DEFAULT_INCREMENT, termsOf}
 use Rattle.series.specs.Refusals.{without, listVerdict}
 use Rattle.series.specs.declared.Method.{Method}
 use Rattle.series.specs.declared.Method.the-variants.{Wheel, ProRata, Lottery, RemainderDraw}
@@ -16,7 +16,7 @@ use Rattle.forms.specs.declared.Form.the-variants.{Shorts, LastNumbers}
 
 -- a listing by its form, method, codes, accounts and numbers, S and the draw
 abbrev lists : Form → Method → List ℕ → List ℕ → List ℕ → ℕ → ℕ → Listing
-lists f m codes accounts ns S draw = record { form = f; terms = termsOf m S draw; codes = codes; accounts = accounts; numbers = ns }
+lists f m codes accounts ns S draw = record { form = f; terms = termsOf m S draw DEFAULT_INCREMENT; codes = codes; accounts = accounts; numbers = ns }
 
 -- with codes and accounts 1, 2, ..
 unfoldable pub numbered : Form → Method → List ℕ → ℕ → ℕ → Listing

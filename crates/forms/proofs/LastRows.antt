@@ -10,8 +10,8 @@ use lib.ListN.{length}
 use borrow.Author.Tests.{eqb-true, not-false, le-leb, lt-leb, lt-ltb, eq-eqb, ne-eqb}
 use Rattle.series.specs.Results.{Result, refused, value, _>>=_}
 use Rattle.series.specs.Places.{total}
-use Rattle.series.specs.Series.{MOST_POSITIONS, MOST_CONTRACTS, Series, method, exercised, held, order, byMethod, orderedBy}
-use Rattle.series.specs.Refusals.{Row, _⟶_∣_, first, NoneApplies, lengthRows, roomRows, accountRefused, positionRows, exercisedRows, outside, undrawn, drawRows, thenDrawRows, listRows, rows, listVerdict, verdict}
+use Rattle.series.specs.Series.{MOST_POSITIONS, MOST_CONTRACTS, Series, method, held, order, orderedBy}
+use Rattle.series.specs.Refusals.{Row, first, NoneApplies, lengthRows, roomRows, accountRefused, positionRows, exercisedRows, incrementRows, undrawn, drawRows, thenDrawRows, termsRows, listRows, rows, listVerdict, verdict}
 use Rattle.series.specs.declared.Method.{Method}
 use Rattle.series.specs.declared.Terms.{Terms}
 use Rattle.series.proofs.RowLaws.{passed-value, passed-append, value-same, first-append}
@@ -127,26 +127,25 @@ by-last-numbers m codes accounts ns =
     (λ none. let lengths = even o accounts ns none in from-top m o accounts ns (lengths .0) (lengths .1))
     ∙ sym (first-append (lengthRows o accounts ns) Q (lastOf 0 ns))
 
--- no row of S and the draw is 6
-terms-free : (t : Terms) (T n : ℕ) → SixFree (exercisedRows T (t .exercised .0) ++ thenDrawRows t T n)
-unfolding exercisedRows thenDrawRows drawRows SixFree
-terms-free t T n = (refl, (refl, draws (undrawn t T n) (t .method)))
+-- no row of the terms is 6
+terms-free : (t : Terms) (T n : ℕ) → SixFree (termsRows t T n)
+unfolding termsRows exercisedRows incrementRows thenDrawRows drawRows SixFree
+terms-free t T n = (refl, (refl, by-cases (t .method) refl (undrawn t T n) refl))
   where
-    draws : (b : Bool) (m : Method) → SixFree (cond b [] (byMethod m (outside T (t .draw) ⟶ 10 ∣ []) [] (outside 10000 (t .draw) ⟶ 10 ∣ []) []))
-    draws true m = tt
-    draws false Method.Wheel = (refl, tt)
-    draws false Method.ProRata = tt
-    draws false Method.Lottery = (refl, tt)
-    draws false Method.RemainderDraw = tt
+    by-cases : (m : Method) → t .method ≡ m → (b : Bool) → undrawn t T n ≡ b → SixFree (incrementRows t T ++ cond (undrawn t T n) [] (drawRows t T))
+    by-cases Method.Wheel e true u = rw (u, e) (refl, (refl, tt))
+    by-cases Method.Wheel e false u = rw (u, e) (refl, (refl, (refl, tt)))
+    by-cases Method.ProRata e true u = rw (u, e) tt
+    by-cases Method.ProRata e false u = rw (u, e) tt
+    by-cases Method.Lottery e true u = rw (u, e) tt
+    by-cases Method.Lottery e false u = rw (u, e) (refl, tt)
+    by-cases Method.RemainderDraw e true u = rw (u, e) tt
+    by-cases Method.RemainderDraw e false u = rw (u, e) tt
 
 -- in a form, a step and what comes after its value
 in-step : (f : Form) (x y : Result ℕ) (g h : ℕ → Result ℕ) → inForm f x ≡ y → ((t : ℕ) → x ≡ value t → inForm f (g t) ≡ h t) → inForm f (x >>= g) ≡ (y >>= h)
 in-step f (refused n) y g h e on = ap (λ r. r >>= h) e
 in-step f (value t) y g h e on = on t refl ∙ ap (λ r. r >>= h) e
-
--- S and the draw, judged after n positions with T contracts
-abbrev termsRows : Terms → ℕ → ℕ → List Row
-termsRows t T n = exercisedRows T (t .exercised .0) ++ thenDrawRows t T n
 
 -- the rows of the length and the output go by the lengths, and none is 6
 above-rows : (order accounts hs hs′ : List ℕ) (room : ℕ) → length hs ≡ length hs′ → lengthRows order accounts hs ++ roomRows hs room ≡ lengthRows order accounts hs′ ++ roomRows hs′ room
@@ -178,7 +177,7 @@ then-terms t ks accounts ns la lk =
     six-free Form.LastNumbers (termsRows t T (length ns)) x (terms-free t T (length ns)) ∙ ap (λ y. first (termsRows t y (length ns)) x) (is-total ∙ sym is-last))
     ∙ sym (first-append Q (termsRows t (lastOf 0 ns) (length ns)) (lastOf 0 ns))
 
--- judging a call of last numbers: the rows of the length, of the output, document 02's of each position, and those of S and the draw, with the last number for T
+-- judging a call of last numbers: the rows of the length, of the output, document 02's of each position, and those of the terms, with the last number for T
 pub called-by-last-numbers : (t : Terms) (codes accounts ns : List ℕ) (room : ℕ)
     → verdictIn (record { form = Form.LastNumbers; terms = t; codes = codes; accounts = accounts; numbers = ns }) room
     ≡ first ((lengthRows (orderedBy (t .method) codes accounts) accounts ns ++ roomRows ns room) ++ (lastRows (t .method) [] 0 0 (orderedBy (t .method) codes accounts) accounts ns ++ termsRows t (lastOf 0 ns) (length ns))) (lastOf 0 ns)

@@ -7,12 +7,13 @@ use lib.ListN.{length, take, drop}
 use lib.Seq.{length-take-le}
 use Rattle.series.specs.Results.{Result, refused, value}
 use Rattle.series.specs.Outputs.{onto}
-use Rattle.series.specs.Series.{Series, exercised}
+use Rattle.series.specs.Series.{Series, method, exercised}
 use Rattle.series.specs.Refusals.{NoneApplies, thenDrawRows, verdict}
 use Rattle.series.specs.Answers.{Allocation}
 use Rattle.series.specs.Call.{further, answer, output}
 use Rattle.series.specs.Fair.{AllocatingCall}
-use Rattle.series.proofs.AcceptedLaws.{Facts, accepted-facts, verdict-accepted}
+use Rattle.series.specs.declared.Method.{Method}
+use Rattle.series.proofs.AcceptedLaws.{IncrementFacts, Facts, accepted-facts, verdict-accepted}
 use Rattle.series.proofs.CallLaws.{verdict-total, verdict-room, draw-passes}
 use Rattle.series.proofs.Demand3.{length-assigned, call-fair}
 use Rattle.judging.specs.Judged.{JudgedSeries}
@@ -47,6 +48,10 @@ module _ (s : Series) (old : List ℕ) where
           },
           rw (← eT) (draw-passes s (length old) T (sym v)),
         )
+
+    -- under W what the judged series has of its increment
+    pub call-increment : method s ≡ Method.Wheel → IncrementFacts s
+    call-increment = facts .by-increment
 
     pub call-allocated : (a : Result Allocation) (vs : List ℕ) → Assigns (s .terms) (s .shorts) a vs → AllocatingCall s a old (vs ++ drop (length (s .shorts)) old)
     unfolding answer output onto

@@ -4,6 +4,7 @@ mod rounds;
 use judging::Judged;
 use series::Answer;
 use series::Contracts;
+use series::DEFAULT_INCREMENT;
 use series::Method;
 use series::terms_of;
 ghost use Prim.Native.Nat.{ℕ};
@@ -14,7 +15,7 @@ ghost use Rattle.series.specs.Series.{Given};
 ghost use Rattle.series.specs.declared.Method.{Method as Method·};
 ghost use Rattle.series.specs.declared.Terms.{Terms as Terms·};
 
-// Assigns the exercised contracts pro rata, amounts in list order; or the first refusal that applies, and then amounts keeps its elements. No code is looked at, nor what terms may have beside their method, S and the draw: the promise holds whatever these are.
+// Assigns the exercised contracts pro rata, amounts in list order; or the first refusal that applies, and then amounts keeps its elements. No code is looked at, nor an increment: the promise holds whatever these are.
 pub fn allocate(
     exercised: Contracts,
     draw: u32,
@@ -24,7 +25,12 @@ pub fn allocate(
 ) -> Answer
     ensures { λ r. ⌜ ((t : Terms·) (codes : List ℕ) → Given t Method·.ProRata (exercised .0) draw → AllocatingCall (record { terms = t; codes = codes; accounts = now (accounts .entry); shorts = now (shorts .entry) }) (answerOf r) (now (amounts .entry)) (now (amounts .exit))) ⌝ }
 {
-    let terms = terms_of(Method::ProRata, exercised, draw);
+    let terms = terms_of(
+        Method::ProRata,
+        exercised,
+        draw,
+        Contracts(DEFAULT_INCREMENT),
+    );
     match judging::judge_uncoded(terms, accounts, shorts, amounts.len()) {
         Judged::Refused(refusal) => Answer::Refused(refusal),
         Judged::Accepted(total) => {

@@ -5,14 +5,11 @@ use mathlib.Core.Path.{_≡_, refl}
 use mathlib.Core.List.{List, [], _∷_, map}
 use Rattle.series.specs.Ascii.{ascii}
 use Rattle.series.specs.Results.{Result}
-use Rattle.series.specs.Sums.{bit, listed}
-use Rattle.series.specs.Places.{total, next, run, within, marked, before, last, amounts}
+use Rattle.series.specs.Places.{last}
 use Rattle.series.specs.Series.{Series}
-use Rattle.series.specs.Wheel.{wheel}
-use Rattle.series.specs.Lottery.{startingPlace, lottery, unstarted, lotteryAmounts}
-use Rattle.series.specs.RemainderDraw.{remainderPlace, firstRange, secondRange}
-use Rattle.series.specs.Refusals.{first, lengthRows, roomRows, standsIn, accountRefused, positionRows, exercisedRows, outside, undrawn, drawRows, thenDrawRows, listRows, rows, verdict}
-use Rattle.series.specs.Call.{assigned}
+use Rattle.series.specs.RemainderDraw.{firstRange, secondRange}
+use Rattle.series.specs.Refusals.{first, verdict}
+use Rattle.series.proofs.Starred.{calledOn}
 use Rattle.forms.specs.Forms.{differences}
 use Rattle.text_rules.specs.Numbers.{digit, digits, spelled, amountFrom, amount, numeral, number, decimalIn, decimal}
 use Rattle.text_rules.specs.Fields.{Text, Read, ends, field, past, fieldBy, endBefore, readFields, writeNumber}
@@ -86,11 +83,21 @@ cases =
     prints "method,exercised,draw\nL,13,4855\naccount,short\n1,0\n2,5\n" "refused\n6\n" ∷
     prints "method,exercised,draw\nL,13,4855\naccount,last\n1,5\n2,10000001\n" "refused\n7\n" ∷
     prints "method,exercised,draw\nL,13,4855\naccount,last\n" "refused\n3\n" ∷
+    -- the increment: A by tens, with leading zeros, and by 25, which is A without it; 23 for 0, also where S equals T; 24; P looks at none; its column without a value
+    prints "method,exercised,draw,increment\nW,175,1,10\naccount,short\n1,60\n2,200\n3,95\n" "account,assigned\n1,31\n2,103\n3,41\n" ∷
+    prints "method,exercised,draw,increment\nW,175,1,0010\naccount,last\n1,60\n2,260\n3,355\n" "account,assigned\n1,31\n2,103\n3,41\n" ∷
+    prints "method,exercised,draw,increment\nW,175,1,25\naccount,short\n1,60\n2,200\n3,95\n" "account,assigned\n1,35\n2,97\n3,43\n" ∷
+    prints "method,exercised,draw\nW,175,1\naccount,short\n1,60\n2,200\n3,95\n" "account,assigned\n1,35\n2,97\n3,43\n" ∷
+    prints "method,exercised,draw,increment\nW,175,1,0\naccount,short\n1,60\n2,200\n3,95\n" "refused\n23\n" ∷
+    prints "method,exercised,draw,increment\nW,355,1,0\naccount,short\n1,60\n2,200\n3,95\n" "refused\n23\n" ∷
+    prints "method,exercised,draw,increment\nW,1000001,1,1\naccount,short\n1,10000000\n" "refused\n24\n" ∷
+    prints "method,exercised,draw,increment\nP,13,0,0\naccount,short\n1,5\n2,8\n" "account,assigned\n1,5\n2,8\n" ∷
+    prints "method,exercised,draw,increment\nW,175,1\naccount,short\n1,60\n2,200\n3,95\n" "refused\n13\n" ∷
     []
 
--- the lines `unfolding` name every definition that printing computes with: the call, the rows and names lines of a text, and what is printed
+-- the lines `unfolding` name every definition that printing computes with: the call (by `calledOn`) and the ranges, the rows and names lines of a text, and what is printed
 calling : Series → ℕ → Result ℕ
-unfolding bit listed total next run within marked before last amounts wheel startingPlace lottery unstarted lotteryAmounts remainderPlace firstRange secondRange first lengthRows roomRows standsIn accountRefused positionRows exercisedRows outside undrawn drawRows thenDrawRows listRows rows verdict assigned
+unfolding calledOn firstRange secondRange
 calling s room = verdict s room
 
 reading : ℕ → Text → Result (Read (List ℕ))

@@ -1,7 +1,6 @@
 -- What is printed for a text goes by its series, and not by how its numbers are spelled or in which form they stand.
 use Prim.Native.Nat.{ℕ, _≤_}
 use mathlib.Core.Path.{_≡_, sym, ap, _∙_}
-use mathlib.Core.Bool.{Bool}
 use mathlib.Core.List.{List}
 use lib.ListN.{length}
 use Rattle.series.specs.Results.{value, _>>=_}
@@ -9,7 +8,7 @@ use Rattle.forms.specs.Forms.{Listing, seriesIn, verdictIn}
 use Rattle.forms.proofs.FormLaws.{same-series}
 use Rattle.forms.proofs.LastRows.{same-verdict}
 use Rattle.text_rules.specs.Fields.{Text}
-use Rattle.text_rules.specs.Text.{MOST_BYTES, readText, writeText}
+use Rattle.text_rules.specs.Text.{MOST_BYTES, Optional, readText, writeText}
 use Rattle.text_rules.proofs.RoundTrip.{spelledText, TextSpells, any-spelling}
 use Rattle.text_rules.proofs.ShortestText.{read-again}
 use Rattle.text_rules.specs.Calls.{changeInto}
@@ -21,10 +20,10 @@ read-printed : (s : Text) (t : Listing) → readText s ≡ value t → printed s
 unfolding printed textOrRefusal
 read-printed s t e = rw e
 
--- in any spelling of its numbers, with its codes or without them, a listing prints the same
-pub spelling-printed : (c : Bool) (t : Listing) (terms : List Text) (lines : List (List Text)) → TextSpells c t terms lines → length (spelledText c (t .form) (t .terms .method) terms lines) ≤ MOST_BYTES
-    → printed (spelledText c (t .form) (t .terms .method) terms lines) ≡ linesFor (seriesOrRefusal (t .form) (seriesIn t))
-spelling-printed c t terms lines so fits = read-printed (spelledText c (t .form) (t .terms .method) terms lines) t (any-spelling c t terms lines so fits)
+-- in any spelling of its numbers, with its optional columns or without them, a listing prints the same
+pub spelling-printed : (o : Optional) (t : Listing) (terms : List Text) (lines : List (List Text)) → TextSpells o t terms lines → length (spelledText o (t .form) (t .terms .method) terms lines) ≤ MOST_BYTES
+    → printed (spelledText o (t .form) (t .terms .method) terms lines) ≡ linesFor (seriesOrRefusal (t .form) (seriesIn t))
+spelling-printed o t terms lines so fits = read-printed (spelledText o (t .form) (t .terms .method) terms lines) t (any-spelling o t terms lines so fits)
 
 -- a text prints what the text that is written for its listing prints
 pub rewritten-printed : (s : Text) (t : Listing) → readText s ≡ value t → printed s ≡ printed (writeText t)

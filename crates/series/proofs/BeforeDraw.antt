@@ -12,8 +12,8 @@ use Rattle.series.specs.Wheel.{wheel}
 use Rattle.series.specs.ProRata.{proRata}
 use Rattle.series.specs.Lottery.{startingPlace, lottery}
 use Rattle.series.specs.RemainderDraw.{remainderPlace}
-use Rattle.series.specs.Refusals.{Row, _⟶_∣_, first, NoneApplies, lengthRows, roomRows, positionRows, exercisedRows, outside, undrawn, drawRows, thenDrawRows, listRows, rows, verdict}
-use Rattle.series.specs.Call.{INCREMENT, assigned}
+use Rattle.series.specs.Refusals.{Row, _⟶_∣_, first, NoneApplies, lengthRows, roomRows, positionRows, exercisedRows, outside, incrementRows, undrawn, drawRows, thenDrawRows, termsRows, listRows, rows, verdict}
+use Rattle.series.specs.Call.{assigned}
 use Rattle.series.specs.declared.Method.{Method}
 use Rattle.series.specs.declared.Method.the-variants.{Wheel, ProRata, Lottery}
 use Rattle.series.specs.declared.Terms.{Terms}
@@ -74,13 +74,17 @@ decided-known = refl
 -- ---- the earlier rule
 
 module _ (s : Series) (room : ℕ) where
+  -- the terms' rows above the draw's
+  abbrev aboveDraw : List Row
+  aboveDraw = exercisedRows (held s) (exercised s) ++ incrementRows (s .terms) (held s)
+
   -- the rows above the draw's
   abbrev above : List Row
-  above = listRows (method s) (order s) (s .accounts) (s .shorts) room ++ exercisedRows (held s) (exercised s)
+  above = listRows (method s) (order s) (s .accounts) (s .shorts) room ++ aboveDraw
 
   -- judging, by rows of the draw
   abbrev judgedBy : List Row → Result ℕ
-  judgedBy draws = first (listRows (method s) (order s) (s .accounts) (s .shorts) room ++ (exercisedRows (held s) (exercised s) ++ draws)) (held s)
+  judgedBy draws = first (listRows (method s) (order s) (s .accounts) (s .shorts) room ++ (aboveDraw ++ draws)) (held s)
 
   -- every draw was judged
   pub earlierVerdict : Result ℕ
@@ -88,14 +92,14 @@ module _ (s : Series) (room : ℕ) where
 
   in-parts : (draws : List Row) → judgedBy draws ≡ first above (held s) >>= first draws
   in-parts draws =
-      ap (λ xs. first xs (held s)) (sym (append-assoc (listRows (method s) (order s) (s .accounts) (s .shorts) room) (exercisedRows (held s) (exercised s)) draws))
+      ap (λ xs. first xs (held s)) (sym (append-assoc (listRows (method s) (order s) (s .accounts) (s .shorts) room) aboveDraw draws))
       ∙ first-append above draws (held s)
 
 -- and under L, and so under R, every amount came from the starting place
 pub earlierAssigned : Terms → List ℕ → List ℕ
 earlierAssigned t hs =
     byMethod (t .method)
-    (wheel INCREMENT hs (t .exercised .0) (t .draw))
+    (wheel (t .increment .0) hs (t .exercised .0) (t .draw))
     (proRata hs (t .exercised .0) (t .draw))
     (lottery hs (t .exercised .0) (startingPlace (total hs) (t .draw)))
     (lottery hs (t .exercised .0) (remainderPlace (total hs) (t .draw)))
@@ -163,12 +167,22 @@ none-ten (r ∷ rows) T k h = step (r .holds) (none-ten rows T (k .1)) h
     step true below e = k .0 cc
     step false below e = below e
 
+no-ten-increment : (t : Terms) (T : ℕ) → NoTen (incrementRows t T)
+unfolding NoTen incrementRows
+no-ten-increment t T = by-cases (t .method) refl
+  where
+    by-cases : (m : Method) → t .method ≡ m → NoTen (incrementRows t T)
+    by-cases Method.Wheel e = rw e (λ e. omega arith, (λ e. omega arith, tt))
+    by-cases Method.ProRata e = rw e tt
+    by-cases Method.Lottery e = rw e tt
+    by-cases Method.RemainderDraw e = rw e tt
+
 above-no-ten : (s : Series) (room : ℕ) → NoTen (above s room)
 unfolding NoTen listRows lengthRows roomRows exercisedRows
 above-no-ten s room =
-    no-ten-append (listRows (method s) (order s) (s .accounts) (s .shorts) room) (exercisedRows (held s) (exercised s))
+    no-ten-append (listRows (method s) (order s) (s .accounts) (s .shorts) room) (aboveDraw s room)
     (λ e. omega arith, (λ e. omega arith, (λ e. omega arith, (λ e. omega arith, no-ten-positions (method s) [] 0 0 (order s) (s .accounts) (s .shorts)))))
-    (λ e. omega arith, (λ e. omega arith, tt))
+    (λ e. omega arith, (λ e. omega arith, no-ten-increment (s .terms) (held s)))
 
 -- ---- what stays
 
@@ -184,7 +198,7 @@ module _ (s : Series) (room : ℕ) where
   earlier-parts = in-parts s room draws
 
   now-parts : verdict s room ≡ first (above s room) (held s) >>= first (cond b [] draws)
-  unfolding verdict rows thenDrawRows
+  unfolding verdict rows thenDrawRows termsRows exercisedRows
   now-parts = in-parts s room (cond b [] draws)
 
   -- a call that was allocated is allocated

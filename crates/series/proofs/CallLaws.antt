@@ -1,42 +1,22 @@
 -- What a call that meets no refusal has of its output and its draw.
-use Prim.Native.Nat.{ℕ, _+_, _≤_, _<_}
-use mathlib.Core.Path.{_≡_, refl, sym, ap, subst, _∙_}
+use Prim.Native.Nat.{ℕ, _≤_, _<_}
+use mathlib.Core.Path.{_≡_, refl, _∙_}
 use mathlib.Core.Bool.{true, false}
-use mathlib.Core.List.{List, [], _++_}
+use mathlib.Core.List.{List, []}
 use native.Mathlib.Omega.{arith}
 use native.Mathlib.Nat.{le-refl, mul-le-mul}
-use lib.Dec.{eqb, ltb}
+use lib.Dec.{eqb}
 use lib.ListN.{length}
-use borrow.Author.Tests.{ltb-false, eqb-false, ne-eqb}
-use Rattle.series.specs.Results.{Result, value}
+use borrow.Author.Tests.{ltb-false, ne-eqb}
+use Rattle.series.specs.Results.{value}
 use Rattle.series.specs.Places.{OnWheel}
-use Rattle.series.specs.Series.{Series, termsOf, Given, method, exercised, held, byMethod, order}
+use Rattle.series.specs.Series.{Series, method, exercised, held, byMethod, order}
 use Rattle.series.specs.Lottery.{startingPlace, unstarted}
-use Rattle.series.specs.Refusals.{NoneApplies, lengthRows, roomRows, positionRows, exercisedRows, outside, undrawn, drawRows, thenDrawRows, listRows, rows, verdict}
-use Rattle.series.specs.Answers.{Allocation}
-use Rattle.series.specs.Fair.{AllocatingCall}
+use Rattle.series.specs.Refusals.{NoneApplies, lengthRows, roomRows, positionRows, exercisedRows, incrementRows, undrawn, drawRows, thenDrawRows, termsRows, listRows, rows, verdict}
 use Rattle.series.specs.declared.Method.{Method}
 use Rattle.series.specs.declared.Terms.{Terms}
 use Rattle.series.proofs.RowLaws.{value-passed, value-same, passed-append}
-use Rattle.series.proofs.AcceptedLaws.{positive, or-false}
-
--- terms with a method, S and a draw have nothing else
-given-terms : (t : Terms) (m : Method) (S d : ℕ) → Given t m S d → termsOf m S d ≡ t
-given-terms t m S d given =
-    ap (λ n. termsOf n S d) (sym (given .given-method)) ∙ ap (λ x. termsOf (t .method) x d) (sym (given .given-exercised)) ∙ ap (termsOf (t .method) (t .exercised .0)) (sym (given .given-draw))
-
--- so a call by a method, S and a draw is one by every terms that have them
-pub call-by-terms : (t : Terms) (m : Method) (S d : ℕ) (codes accounts shorts : List ℕ) {a : Result Allocation} {old new : List ℕ} → Given t m S d
-    → AllocatingCall (record { terms = termsOf m S d; codes = codes; accounts = accounts; shorts = shorts }) a old new
-    → AllocatingCall (record { terms = t; codes = codes; accounts = accounts; shorts = shorts }) a old new
-call-by-terms t m S d codes accounts shorts {a} {old} {new} given call =
-    subst (λ (u : Terms). AllocatingCall (record { terms = u; codes = codes; accounts = accounts; shorts = shorts }) a old new) (given-terms t m S d given) call
-
-not-outside : (n draw : ℕ) → outside n draw ≡ false → OnWheel n draw
-unfolding outside
-not-outside n draw h =
-    let parts = or-false (eqb draw 0) (ltb n draw) h in
-    record { low = positive (eqb-false draw 0 (parts .0)); high = ltb-false n draw (parts .1) }
+use Rattle.series.proofs.AcceptedLaws.{not-outside}
 
 module _ (s : Series) (room T : ℕ) (v : verdict s room ≡ value T) where
   all-passed : NoneApplies (rows s room)
@@ -55,11 +35,10 @@ module _ (s : Series) (room T : ℕ) (v : verdict s room ≡ value T) where
 
   -- the draw is not turned away
   pub draw-passes : NoneApplies (thenDrawRows (s .terms) (held s) (length (s .shorts)))
-  unfolding rows listRows NoneApplies lengthRows roomRows
+  unfolding rows listRows NoneApplies lengthRows roomRows termsRows exercisedRows
   draw-passes =
-      let draws = thenDrawRows (s .terms) (held s) (length (s .shorts)) in
-      let terms = passed-append (positionRows (method s) [] 0 0 (order s) (s .accounts) (s .shorts)) (exercisedRows (held s) (exercised s) ++ draws) (all-passed .1 .1 .1 .1) .1 in
-      passed-append (exercisedRows (held s) (exercised s)) draws terms .1
+      let terms = passed-append (positionRows (method s) [] 0 0 (order s) (s .accounts) (s .shorts)) (termsRows (s .terms) (held s) (length (s .shorts))) (all-passed .1 .1 .1 .1) .1 in
+      passed-append (incrementRows (s .terms) (held s)) (thenDrawRows (s .terms) (held s) (length (s .shorts))) (terms .1 .1) .1
 
 -- another method than W
 pub not-wheel : (m : Method) → byMethod m true false false false ≡ false → m ≡ Method.Wheel → ⊥

@@ -3,7 +3,7 @@ use Prim.Native.Nat.{ℕ}
 use mathlib.Core.Path.{_≡_, refl}
 use mathlib.Core.List.{List, [], _∷_, map}
 use Rattle.series.specs.Results.{Result, refused, value}
-use Rattle.series.specs.Series.{Series, termsOf, method}
+use Rattle.series.specs.Series.{Series, DEFAULT_INCREMENT, termsOf, method}
 use Rattle.series.specs.Refusals.{without, listVerdict}
 use Rattle.series.specs.declared.Method.{Method}
 use Rattle.series.specs.declared.Method.the-variants.{Wheel, ProRata, Lottery}
@@ -13,7 +13,7 @@ use Rattle.series.proofs.Starred.{calledOn, allocated, turnedAway}
 abbrev coded : Method → List ℕ → List ℕ → List ℕ → ℕ → ℕ → Series
 coded m codes accounts shorts S draw =
     record {
-      terms = termsOf m S draw;
+      terms = termsOf m S draw DEFAULT_INCREMENT;
       codes = codes;
       accounts = accounts;
       shorts = shorts;

@@ -13,17 +13,17 @@ use Rattle.series.specs.Results.{Result, refused, value, _>>=_}
 use Rattle.series.specs.Outputs.{onto}
 use Rattle.series.specs.Sums.{sumBelow}
 use Rattle.series.specs.Places.{total, run, marked, OnWheel, overPlaces}
-use Rattle.series.specs.Series.{Series, method, exercised, draw, held, redrawn}
+use Rattle.series.specs.Series.{Series, method, exercised, draw, increment, held, redrawn}
 use Rattle.series.specs.Wheel.{ONE, blocks, wheelMarks, wheel}
 use Rattle.series.specs.ProRata.{proRata}
 use Rattle.series.specs.Lottery.{startingPlace, lottery, unstarted, lotteryAmounts, startUsed}
 use Rattle.series.specs.RemainderDraw.{remainderPlace}
 use Rattle.series.specs.Refusals.{verdict, Accepted}
-use Rattle.series.specs.Call.{INCREMENT, assigned, further, answer, output}
+use Rattle.series.specs.Call.{assigned, further, answer, output}
 use Rattle.series.specs.Fair.{Near, Fair, FairOutput}
 use Rattle.series.specs.declared.Method.{Method}
 use Rattle.series.specs.declared.Terms.{Terms}
-use Rattle.series.proofs.AcceptedLaws.{Facts, accepted-facts, verdict-accepted}
+use Rattle.series.proofs.AcceptedLaws.{IncrementFacts, Facts, accepted-facts, verdict-accepted}
 use Rattle.series.proofs.CallLaws.{draw-passes, wheel-judged, lottery-judged, wheel-draw, lottery-draw, starting-on}
 use Rattle.series.proofs.SumLaws.{sum-cong, length-listed}
 use Rattle.series.proofs.ProRataLaws.{pro-rata-sum, pro-rata-most, pro-rata-share}
@@ -38,25 +38,28 @@ module _ (s : Series) (room : ℕ) (ok : Accepted s room) where
   some-total : 0 < held s
   some-total = facts .total-some
 
-  few-blocks : blocks INCREMENT (exercised s) ≤ ONE
-  unfolding blocks
-  few-blocks = omega (arith, facts .exercised-most, facts .total-most)
+  module _ (w : method s ≡ Method.Wheel) where
+    by : IncrementFacts s
+    by = facts .by-increment w
 
-  -- W: from every starting place the amounts add up to S.
-  pub wheel-adds-up : (p : ℕ) → OnWheel (held s) p → total (wheel INCREMENT (s .shorts) (exercised s) p) ≡ exercised s
-  wheel-adds-up = wheel-sum INCREMENT (s .shorts) (exercised s) (omega arith) (facts .exercised-some) (facts .exercised-most)
+    few : exercised s < held s → blocks (increment s) (exercised s) ≤ ONE
+    few less = omega (arith, by .few-blocks less)
 
-  -- W: from every starting place no position gets more than its shorts.
-  pub wheel-at-most : (p : ℕ) → OnWheel (held s) p → (i : ℕ) → i < length (s .shorts) → getD (wheel INCREMENT (s .shorts) (exercised s) p) i 0 ≤ getD (s .shorts) i 0
-  wheel-at-most = wheel-most INCREMENT (s .shorts) (exercised s) (omega arith) (facts .exercised-some) (facts .exercised-most) few-blocks
+    -- W: from every starting place the amounts add up to S.
+    pub wheel-adds-up : (p : ℕ) → OnWheel (held s) p → total (wheel (increment s) (s .shorts) (exercised s) p) ≡ exercised s
+    wheel-adds-up = wheel-sum (increment s) (s .shorts) (exercised s) (by .some) (facts .exercised-some) (facts .exercised-most)
 
-  -- W: summed over the starting places 1 to T, a position's amounts are its shorts times S.
-  pub wheel-shares : (i : ℕ) → i < length (s .shorts) → overPlaces (held s) (λ p. getD (wheel INCREMENT (s .shorts) (exercised s) p) i 0) ≡ getD (s .shorts) i 0 * exercised s
-  wheel-shares = wheel-share INCREMENT (s .shorts) (exercised s) (omega arith) (facts .exercised-some) (facts .exercised-most)
+    -- W: from every starting place no position gets more than its shorts.
+    pub wheel-at-most : (p : ℕ) → OnWheel (held s) p → (i : ℕ) → i < length (s .shorts) → getD (wheel (increment s) (s .shorts) (exercised s) p) i 0 ≤ getD (s .shorts) i 0
+    wheel-at-most = wheel-most (increment s) (s .shorts) (exercised s) (by .some) (facts .exercised-some) (facts .exercised-most) few
 
-  -- W: no contract c + 1 is marked twice.
-  pub wheel-marks-once : exercised s < held s → (p c : ℕ) → OnWheel (held s) p → c < held s → marked c (suc c) (wheelMarks INCREMENT (held s) (exercised s) p) ≤ 1
-  wheel-marks-once less = wheel-once INCREMENT (held s) (exercised s) (omega arith) (facts .exercised-some) less few-blocks
+    -- W: summed over the starting places 1 to T, with one increment at all of them, a position's amounts are its shorts times S.
+    pub wheel-shares : (i : ℕ) → i < length (s .shorts) → overPlaces (held s) (λ p. getD (wheel (increment s) (s .shorts) (exercised s) p) i 0) ≡ getD (s .shorts) i 0 * exercised s
+    wheel-shares = wheel-share (increment s) (s .shorts) (exercised s) (by .some) (facts .exercised-some) (facts .exercised-most)
+
+    -- W: no contract c + 1 is marked twice.
+    pub wheel-marks-once : exercised s < held s → (p c : ℕ) → OnWheel (held s) p → c < held s → marked c (suc c) (wheelMarks (increment s) (held s) (exercised s) p) ≤ 1
+    wheel-marks-once less = wheel-once (increment s) (held s) (exercised s) (by .some) (facts .exercised-some) less (few less)
 
   -- L and R: from every place, drawn or not, the amounts add up to S.
   pub lottery-adds-up : (p : ℕ) → OnWheel (held s) p → total (lottery (s .shorts) (exercised s) p) ≡ exercised s
@@ -93,7 +96,7 @@ unfolding assigned proRata
 length-assigned t hs = by-cases (t .method) refl
   where
     by-cases : (m : Method) → t .method ≡ m → length (assigned t hs) ≡ length hs
-    by-cases Method.Wheel e = rw e (length-wheel INCREMENT hs (t .exercised .0) (t .draw))
+    by-cases Method.Wheel e = rw e (length-wheel (t .increment .0) hs (t .exercised .0) (t .draw))
     by-cases Method.ProRata e = rw e (length-listed _ (length hs))
     by-cases Method.Lottery e = rw e (length-lottery-amounts hs (t .exercised .0) (startingPlace (total hs) (t .draw)))
     by-cases Method.RemainderDraw e = rw e (length-lottery-amounts hs (t .exercised .0) (remainderPlace (total hs) (t .draw)))
@@ -112,10 +115,10 @@ module _ (s : Series) (room T : ℕ) (v : verdict s room ≡ value T) where
   first-place = record { low = omega arith; high = some-total s room ok }
 
   -- W: an allocation is one from a place on the wheel, drawn or not
-  pub wheel-from : method s ≡ Method.Wheel → FromPlace (held s) (wheel INCREMENT (s .shorts) (exercised s)) (wheel INCREMENT (s .shorts) (exercised s) (draw s))
+  pub wheel-from : method s ≡ Method.Wheel → FromPlace (held s) (wheel (increment s) (s .shorts) (exercised s)) (wheel (increment s) (s .shorts) (exercised s) (draw s))
   wheel-from e =
       elim (ℕ-discrete (exercised s) (held s)) [
-        | yes whole ↦ record { place = 1; on = first-place; same = wheel-whole INCREMENT (s .shorts) (exercised s) (draw s) whole ∙ sym (wheel-whole INCREMENT (s .shorts) (exercised s) 1 whole) }
+        | yes whole ↦ record { place = 1; on = first-place; same = wheel-whole (increment s) (s .shorts) (exercised s) (draw s) whole ∙ sym (wheel-whole (increment s) (s .shorts) (exercised s) 1 whole) }
         | no part ↦ record { place = draw s; on = wheel-draw (s .terms) (held s) e (wheel-judged (s .terms) (held s) (length (s .shorts)) e part (draw-passes s room T v)); same = refl }
       ]
 
@@ -185,7 +188,7 @@ module _ (s : Series) (room T : ℕ) (v : verdict s room ≡ value T) where
       fair-by vs is fair = rw is fair
 
       by-cases : (m : Method) → method s ≡ m → Fair s (assigned (s .terms) (s .shorts))
-      by-cases Method.Wheel e = fair-by _ (rw e refl) (fair-from (wheel INCREMENT (s .shorts) (exercised s)) _ (wheel-from e) (λ p. let z : _≡_ {A = ℕ} 0 1 = cc in omega arith) (wheel-adds-up s room ok) (wheel-at-most s room ok))
+      by-cases Method.Wheel e = fair-by _ (rw e refl) (fair-from (wheel (increment s) (s .shorts) (exercised s)) _ (wheel-from e) (λ p. let z : _≡_ {A = ℕ} 0 1 = cc in omega arith) (wheel-adds-up s room ok e) (wheel-at-most s room ok e))
       by-cases Method.ProRata e =
           fair-by (proRata (s .shorts) (exercised s) (draw s)) (rw e refl) (record {
             adds-up = pro-rata-adds-up s room ok (draw s);

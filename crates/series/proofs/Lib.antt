@@ -7,6 +7,7 @@ pub mod BeforeDraw
 pub mod OnePosition
 pub mod CodeLaws
 pub mod Coded
+pub mod Increments
 pub mod Exhibit
 pub mod RangeLaws
 pub mod CutOffLaws
@@ -17,6 +18,8 @@ pub mod SumLaws
 pub mod ListLaws
 pub mod PlaceLaws
 pub mod WheelLaws
+pub mod BlockLimit
+pub mod IncrementLaws
 pub mod LotteryLaws
 pub mod RemainderLaws
 pub mod ProRataLaws

@@ -4,12 +4,12 @@ use mathlib.Core.Path.{_≡_, refl}
 use mathlib.Core.List.{List, [], _∷_, map}
 use lib.ListN.{replicate}
 use Rattle.series.specs.Places.{total}
-use Rattle.series.specs.Wheel.{interval}
+use Rattle.series.specs.Wheel.{interval, blocks}
 use Rattle.series.specs.ProRata.{percentage}
 use Rattle.series.specs.Lottery.{unstarted}
 use Rattle.series.specs.Results.{Result, refused}
-use Rattle.series.specs.Series.{Series, termsOf}
-use Rattle.series.specs.Refusals.{first, lengthRows, roomRows, standsIn, accountRefused, positionRows, exercisedRows, outside, undrawn, drawRows, thenDrawRows, listRows, rows, verdict}
+use Rattle.series.specs.Series.{Series, DEFAULT_INCREMENT, termsOf}
+use Rattle.series.specs.Refusals.{first, lengthRows, roomRows, standsIn, accountRefused, positionRows, exercisedRows, outside, tooManyBlocks, incrementRows, undrawn, drawRows, thenDrawRows, termsRows, listRows, rows, verdict}
 use Rattle.series.specs.declared.Method.{Method}
 use Rattle.series.specs.declared.Method.the-variants.{Wheel, Lottery}
 
@@ -28,15 +28,20 @@ pub record Call : Type 0 where
   pub series : Series
   pub room : ℕ
 
-abbrev pub call : Method → List ℕ → List ℕ → ℕ → ℕ → ℕ → Call
-call m accounts shorts S draw room =
+-- by the increment I
+abbrev pub callBy : ℕ → Method → List ℕ → List ℕ → ℕ → ℕ → ℕ → Call
+callBy I m accounts shorts S draw room =
     record {
-      series = record { terms = termsOf m S draw; codes = accounts; accounts = accounts; shorts = shorts };
+      series = record { terms = termsOf m S draw I; codes = accounts; accounts = accounts; shorts = shorts };
       room = room;
     }
 
+-- and where none is given
+abbrev pub call : Method → List ℕ → List ℕ → ℕ → ℕ → ℕ → Call
+call = callBy DEFAULT_INCREMENT
+
 unfoldable pub verdictOn : Call → Result ℕ
-unfolding total unstarted first lengthRows roomRows standsIn accountRefused positionRows exercisedRows outside undrawn drawRows thenDrawRows listRows rows verdict
+unfolding total blocks unstarted first lengthRows roomRows standsIn accountRefused positionRows exercisedRows outside tooManyBlocks incrementRows undrawn drawRows thenDrawRows termsRows listRows rows verdict
 verdictOn c = verdict (c .series) (c .room)
 
 -- calls that meet 1 and 2, 2 and 4, 3 and 8, 4 and 5, 5 and 6, 6 and then 7, 7 and then 5, 7 and 8, 8 and 10, 9 and 10; and each of them but the third, whose S equals T, meets 10 too

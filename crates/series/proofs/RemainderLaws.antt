@@ -12,7 +12,7 @@ use Rattle.series.specs.Places.{total, OnWheel}
 use Rattle.series.specs.Series.{orderedBy}
 use Rattle.series.specs.Lottery.{startingPlace, unstarted}
 use Rattle.series.specs.RemainderDraw.{remainderPlace}
-use Rattle.series.specs.Refusals.{Row, _⟶_∣_, first, exercisedRows, outside, undrawn, drawRows, thenDrawRows, listRows, rows, verdict}
+use Rattle.series.specs.Refusals.{Row, _⟶_∣_, first, exercisedRows, outside, incrementRows, undrawn, drawRows, thenDrawRows, termsRows, listRows, rows, verdict}
 use Rattle.series.specs.Call.{assigned, further}
 use Rattle.series.specs.declared.Method.{Method}
 use Rattle.series.specs.declared.Terms.{Terms}
@@ -47,15 +47,15 @@ equal-starts l r hs el er S start = (rw (el, er, start, S) refl, rw (el, er, sta
 -- R meets the refusals of L with the same S and a draw of 1 to 10,000, whatever its own draw, and whatever the codes of both
 module _ (r l : Terms) (er : r .method ≡ Method.RemainderDraw) (el : l .method ≡ Method.Lottery) (same : r .exercised .0 ≡ l .exercised .0) (on : OnWheel 10000 (l .draw))
     (codes codes′ accounts hs : List ℕ) (room : ℕ) where
-  -- the rows of the draw, and those below the list's
+  -- the rows of the increment and the draw, and all below the list's
   draws : Terms → List Row
-  draws t = thenDrawRows t (total hs) (length hs)
+  draws t = incrementRows t (total hs) ++ thenDrawRows t (total hs) (length hs)
 
   below : Terms → List Row
   below t = exercisedRows (total hs) (l .exercised .0) ++ draws t
 
   draws-alike : first (draws r) (total hs) ≡ first (draws l) (total hs)
-  unfolding draws thenDrawRows drawRows undrawn outside first
+  unfolding draws incrementRows thenDrawRows drawRows undrawn outside first
   draws-alike =
       let some : l .draw ≡ 0 → ⊥ = λ z. omega (arith, on .low) in
       rw (er, el, same, ne-eqb (l .draw) 0 some, le-ltb 10000 (l .draw) (on .high)) (by-cases (unstarted (total hs) (length hs) (l .exercised .0)))
@@ -67,7 +67,7 @@ module _ (r l : Terms) (er : r .method ≡ Method.RemainderDraw) (el : l .method
   -- a verdict by the method and S that the terms have
   in-parts : (t : Terms) (m : Method) (cs : List ℕ) → t .method ≡ m → t .exercised .0 ≡ l .exercised .0
       → verdict (record { terms = t; codes = cs; accounts = accounts; shorts = hs }) room ≡ first (listRows m (orderedBy m cs accounts) accounts hs room ++ below t) (total hs)
-  unfolding verdict rows below draws
+  unfolding verdict rows termsRows below draws
   in-parts t m cs em eS = ap₂ (λ n S. first (listRows n (orderedBy n cs accounts) accounts hs room ++ (exercisedRows (total hs) S ++ draws t)) (total hs)) em eS
 
   pub judged-as-lottery : verdict (record { terms = r; codes = codes; accounts = accounts; shorts = hs }) room ≡ verdict (record { terms = l; codes = codes′; accounts = accounts; shorts = hs }) room

@@ -133,10 +133,10 @@ module _ (I : ℕ) (hs : List ℕ) (S : ℕ) (hi : 0 < I) (some : 0 < S) (most :
         | no g ↦ let e : S ≡ total hs = omega arith in ap total (wheel-whole I hs S p e) ∙ sym e
       ]
 
-  pub wheel-most : blocks I S ≤ ONE → (p : ℕ) → OnWheel (total hs) p → (i : ℕ) → i < length hs → getD (wheel I hs S p) i 0 ≤ getD hs i 0
+  pub wheel-most : (S < total hs → blocks I S ≤ ONE) → (p : ℕ) → OnWheel (total hs) p → (i : ℕ) → i < length hs → getD (wheel I hs S p) i 0 ≤ getD hs i 0
   wheel-most few p on i h =
       elim (decLt S (total hs)) [
-        | yes l ↦ rw (wheel-part I hs S p l) (places-most hs (wheelOffsets I (total hs) S) p i on (rising-wheelOffsets I (total hs) S hi some l few) h)
+        | yes l ↦ rw (wheel-part I hs S p l) (places-most hs (wheelOffsets I (total hs) S) p i on (rising-wheelOffsets I (total hs) S hi some l (few l)) h)
         | no g ↦ rw (wheel-whole I hs S p (omega arith)) (le-refl (getD hs i 0))
       ]
 

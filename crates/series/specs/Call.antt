@@ -15,15 +15,11 @@ use Rattle.series.specs.Refusals.{verdict}
 use Rattle.series.specs.Answers.{Allocation}
 use Rattle.series.specs.declared.Terms.{Terms}
 
--- the assignment increment of the call
-abbrev pub INCREMENT : ℕ
-INCREMENT = 25
-
 -- the amounts that the method assigns: by the wheel, pro rata, by the starting number, by the remainder draw, which goes on as the starting number does
 unfoldable pub assigned : Terms → List ℕ → List ℕ
 assigned t hs =
     byMethod (t .method)
-    (wheel INCREMENT hs (t .exercised .0) (t .draw))
+    (wheel (t .increment .0) hs (t .exercised .0) (t .draw))
     (proRata hs (t .exercised .0) (t .draw))
     (lotteryAmounts hs (t .exercised .0) (startingPlace (total hs) (t .draw)))
     (lotteryAmounts hs (t .exercised .0) (remainderPlace (total hs) (t .draw)))
@@ -32,7 +28,7 @@ assigned t hs =
 unfoldable pub further : Terms → List ℕ → Option ℕ
 further t hs =
     byMethod (t .method)
-    (some (blocksUsed INCREMENT (total hs) (t .exercised .0)))
+    (some (blocksUsed (t .increment .0) (total hs) (t .exercised .0)))
     (some (remainder hs (t .exercised .0)))
     (startUsed hs (t .exercised .0) (startingPlace (total hs) (t .draw)))
     (startUsed hs (t .exercised .0) (remainderPlace (total hs) (t .draw)))

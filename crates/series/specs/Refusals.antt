@@ -1,13 +1,14 @@
--- Where the allocating call is turned away: the rows of document 01's table from "list, its length" down, with document 02's 19.
+-- Where the allocating call is turned away: the rows of document 01's table from "list, its length" down, with document 02's 19, 23 and 24.
 use Prim.Native.Nat.{ℕ, _+_}
 use mathlib.Core.Path.{_≡_}
-use mathlib.Core.Bool.{Bool, false, not, _||_, cond}
+use mathlib.Core.Bool.{Bool, false, not, _||_, _&&_, cond}
 use mathlib.Core.List.{List, [], _∷_, _++_}
 use lib.Dec.{eqb, ltb, leb}
 use lib.ListN.{length}
 use Rattle.series.specs.Results.{Result, refused, value}
 use Rattle.series.specs.Places.{total}
-use Rattle.series.specs.Series.{Series, MOST_POSITIONS, MOST_CONTRACTS, method, exercised, held, byMethod, orderedBy, order}
+use Rattle.series.specs.Series.{Series, MOST_POSITIONS, MOST_CONTRACTS, method, held, byMethod, orderedBy, order}
+use Rattle.series.specs.Wheel.{MOST_INCREMENT, MOST_BLOCKS, blocks}
 use Rattle.series.specs.Lottery.{unstarted}
 use Rattle.series.specs.declared.Method.{Method}
 use Rattle.series.specs.declared.Terms.{Terms}
@@ -75,9 +76,17 @@ positionRows m earlier before sum (k ∷ ks) (a ∷ rest) (h ∷ hs) =
 unfoldable pub exercisedRows : ℕ → ℕ → List Row
 exercisedRows T S = eqb S 0 ⟶ 8 ∣ ltb T S ⟶ 9 ∣ []
 
--- the draw is outside 1 to n
+-- the number is outside 1 to most
 unfoldable pub outside : ℕ → ℕ → Bool
-outside n draw = eqb draw 0 || ltb n draw
+outside most n = eqb n 0 || ltb most n
+
+-- the blocks are too many: S is less than T, and T1 above 1,000,000
+unfoldable pub tooManyBlocks : ℕ → ℕ → ℕ → Bool
+tooManyBlocks I T S = ltb S T && ltb MOST_BLOCKS (blocks I S)
+
+-- increment, under W only: 1 to 1,000, and then not too many blocks
+unfoldable pub incrementRows : Terms → ℕ → List Row
+incrementRows t T = byMethod (t .method) (outside MOST_INCREMENT (t .increment .0) ⟶ 23 ∣ tooManyBlocks (t .increment .0) T (t .exercised .0) ⟶ 24 ∣ []) [] [] []
 
 -- decided before the draw: S equals T, under W, L and R; then, under L and R only, one position. n is the number of positions
 unfoldable pub undrawn : Terms → ℕ → ℕ → Bool
@@ -91,15 +100,17 @@ drawRows t T = byMethod (t .method) (outside T (t .draw) ⟶ 10 ∣ []) [] (outs
 unfoldable pub thenDrawRows : Terms → ℕ → ℕ → List Row
 thenDrawRows t T n = cond (undrawn t T n) [] (drawRows t T)
 
+-- the terms' rows: exercised, the increment, the draw. n is the number of positions
+unfoldable pub termsRows : Terms → ℕ → ℕ → List Row
+termsRows t T n = exercisedRows T (t .exercised .0) ++ (incrementRows t T ++ thenDrawRows t T n)
+
 -- the list's rows; room is the length of the output
 unfoldable pub listRows : Method → List ℕ → List ℕ → List ℕ → ℕ → List Row
 listRows m order accounts shorts room = lengthRows order accounts shorts ++ (roomRows shorts room ++ positionRows m [] 0 0 order accounts shorts)
 
 -- the table, from top to bottom
 unfoldable pub rows : Series → ℕ → List Row
-rows s room =
-    listRows (method s) (order s) (s .accounts) (s .shorts) room
-    ++ (exercisedRows (held s) (exercised s) ++ thenDrawRows (s .terms) (held s) (length (s .shorts)))
+rows s room = listRows (method s) (order s) (s .accounts) (s .shorts) room ++ termsRows (s .terms) (held s) (length (s .shorts))
 
 -- judging a call: T, or the first refusal that it meets
 unfoldable pub verdict : Series → ℕ → Result ℕ

@@ -14,11 +14,15 @@ MOST_POSITIONS = 4096
 abbrev pub MOST_CONTRACTS : ℕ
 MOST_CONTRACTS = 10000000
 
--- the terms of a method, S and a draw
-abbrev pub termsOf : Method → ℕ → ℕ → Terms
-termsOf m S draw = record { method = m; exercised = record { 0 = S }; draw = draw }
+-- the increment where none is given
+abbrev pub DEFAULT_INCREMENT : ℕ
+DEFAULT_INCREMENT = 25
 
--- the terms t have this method, S and draw, whatever else they have
+-- the terms of a method, S, a draw and an increment
+abbrev pub termsOf : Method → ℕ → ℕ → ℕ → Terms
+termsOf m S draw I = record { method = m; exercised = record { 0 = S }; draw = draw; increment = record { 0 = I } }
+
+-- the terms t have this method, S and draw, whatever their increment
 pub record Given (t : Terms) (m : Method) (S d : ℕ) : Type 0 where
   pub given-method : t .method ≡ m
   pub given-exercised : t .exercised .0 ≡ S
@@ -26,7 +30,7 @@ pub record Given (t : Terms) (m : Method) (S d : ℕ) : Type 0 where
 
 -- the same terms with another draw
 unfoldable pub redrawn : ℕ → Terms → Terms
-redrawn d t = record { method = t .method; exercised = t .exercised; draw = d }
+redrawn d t = record { method = t .method; exercised = t .exercised; draw = d; increment = t .increment }
 
 -- a series: its terms, and the list of its short positions, a code, an account and its shorts each
 pub record Series : Type 0 where
@@ -44,6 +48,10 @@ exercised s = s .terms .exercised .0
 
 abbrev pub draw : Series → ℕ
 draw s = s .terms .draw
+
+-- the assignment increment, which W alone looks at
+abbrev pub increment : Series → ℕ
+increment s = s .terms .increment .0
 
 -- T, the sum of all shorts
 abbrev pub held : Series → ℕ

@@ -1,4 +1,4 @@
--- The wheel (W), source document 000. I is the assignment increment, for which the call has 25.
+-- The wheel (W), source document 000. I is the assignment increment.
 use Prim.Native.Nat.{ℕ, zero, suc, _+_, _-_, _*_, _/_, _%_}
 use mathlib.Core.Bool.{cond}
 use mathlib.Core.List.{List, _++_}
@@ -8,6 +8,14 @@ use Rattle.series.specs.Places.{total, steps, run, amounts}
 -- one contract, in millionths
 abbrev pub ONE : ℕ
 ONE = 1000000
+
+-- the increment is at most so many contracts
+abbrev pub MOST_INCREMENT : ℕ
+MOST_INCREMENT = 1000
+
+-- there are at most so many blocks
+abbrev pub MOST_BLOCKS : ℕ
+MOST_BLOCKS = 1000000
 
 -- T1, the number of blocks: S divided by the increment, rounded up
 unfoldable pub blocks : ℕ → ℕ → ℕ

@@ -17,25 +17,30 @@ pub enum Method {
     RemainderDraw,
 }
 
-// What a call is given of a series beside its lists: the method, the contracts exercised (S) and the draw.
+// What a call is given of a series beside its lists: the method, the contracts exercised (S), the draw and, for the wheel, the assignment increment.
 pub struct Terms {
     pub method: Method,
     pub exercised: Contracts,
     pub draw: u32,
+    pub increment: Contracts,
 }
 
-// The terms of a method, S and a draw.
-pub fn terms_of(method: Method, exercised: Contracts, draw: u32) -> Terms
-    ensures { λ r. ⌜ r ≡ termsOf method (exercised .0) draw ⌝ }
+// The increment where none is given.
+pub const DEFAULT_INCREMENT: u32 = 25;
+
+// The terms of a method, S, a draw and an increment.
+pub fn terms_of(method: Method, exercised: Contracts, draw: u32, increment: Contracts) -> Terms
+    ensures { λ r. ⌜ r ≡ termsOf method (exercised .0) draw (increment .0) ⌝ }
 {
     Terms {
         method,
         exercised,
         draw,
+        increment,
     }
 }
 
-// Why a call is turned away, in the order of the numbers 1 to 20 of documents 01 and 02.
+// Why a call is turned away, in the order of the numbers of documents 01 and 02.
 pub enum Refusal {
     LengthsDiffer,
     TooManyPositions,
@@ -57,6 +62,8 @@ pub enum Refusal {
     ExercisedAboveLimit,
     AccountRepeated,
     LastNotAbove,
+    IncrementOutOfRange,
+    TooManyBlocks,
 }
 
 // What the allocating call answers: T with the method's one further number, or a refusal.
@@ -117,5 +124,7 @@ pub fn number(refusal: Refusal) -> u32
         Refusal::ExercisedAboveLimit => 18,
         Refusal::AccountRepeated => 19,
         Refusal::LastNotAbove => 20,
+        Refusal::IncrementOutOfRange => 23,
+        Refusal::TooManyBlocks => 24,
     }
 }

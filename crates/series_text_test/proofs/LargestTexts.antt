@@ -9,7 +9,7 @@ use borrow.Author.Tests.{lt-ltb, le-ltb}
 use lib.ListN.{length, getD, replicate, length-append, length-replicate, List·getD-append, getD-replicate}
 use lib.Seq.{getD-append-add}
 use Rattle.series.specs.Ascii.{ascii}
-use Rattle.series.specs.Series.{termsOf}
+use Rattle.series.specs.Series.{DEFAULT_INCREMENT, termsOf}
 use Rattle.series.specs.Results.{refused, value, status}
 use Rattle.forms.specs.Forms.{Listing}
 use Rattle.forms.specs.declared.Form.{Form}
@@ -20,7 +20,8 @@ use Rattle.text_rules.specs.Fields.{Text, endBefore, writeNumber}
 use Rattle.text_rules.specs.Rows.{writeParted, writeRow, writeRows, rowOf, rowsOf}
 use Rattle.text_rules.specs.Names.{termsLine, codeName, accountName, formName, accountLine, positionsLine}
 use Rattle.text_rules.specs.Letters.{letter}
-use Rattle.text_rules.specs.Text.{MOST_BYTES, readHead, readText, writeTerms, writeHead, textWith, sameNumbers, writesCodes, writeText}
+use Rattle.text_rules.specs.Text.{MOST_BYTES, readHead, readText, writeTerms, Optional, writeHead, textWith, sameNumbers, writesCodes, termsColumns, writtenColumns, writeText}
+use Rattle.text_rules.specs.declared.TermsColumns.{TermsColumns}
 use Rattle.text_rules.specs.Calls.{evenly, lineCount, headAndLines, writeInto, lengthOf}
 use Rattle.text_rules.specs.Lists.{Columns}
 use Rattle.text_rules.proofs.RowLaws.{Fits, fits-none, fits-more}
@@ -31,11 +32,11 @@ use Rattle.text_rules.proofs.RoundTrip.{Writable, round-trip, too-long}
 pub large : ℕ → ℕ → ℕ → ℕ → Listing
 large n code account number =
     let then : ℕ → List ℕ = λ k. replicate n 4294967295 ++ (k ∷ []) in
-    record { form = Form.Shorts; terms = termsOf Method.Lottery 13 4855; codes = then code; accounts = then account; numbers = then number }
+    record { form = Form.Shorts; terms = termsOf Method.Lottery 13 4855 DEFAULT_INCREMENT; codes = then code; accounts = then account; numbers = then number }
 
 -- the definitions that a line, the head and the tests before them compute with
 computing : Listing → Text
-unfolding large endBefore termsLine codeName accountName formName accountLine positionsLine letter ascii decimalIn decimal writeNumber writeParted writeTerms writeHead sameNumbers writesCodes evenly lineCount headAndLines writeInto lengthOf
+unfolding large endBefore termsLine codeName accountName formName accountLine positionsLine letter ascii decimalIn decimal writeNumber writeParted writeTerms writeHead sameNumbers writesCodes termsColumns writtenColumns evenly lineCount headAndLines writeInto lengthOf
 computing t = writeText t
 
 -- a series whose text has 32,768 bytes, and one whose text has one more
@@ -102,7 +103,11 @@ module _ (n code account short : ℕ) where
       let line : length (writeRow (rows n)) ≡ length (writeRow (code ∷ account ∷ short ∷ [])) = ap (λ r. length (writeRow r)) row-last in
       sym (ap length (lines-all (filled n code) (filled n account ∷ filled n short ∷ []) (n + 1) (sym (filled-length n code)))) ∙ lines-next-length rows n ∙ omega (arith, lines-first n (omega arith))
 
-head-long : length (writeHead true Form.Shorts (large 0 0 0 0 .terms)) ≡ 51
+-- without the increment, with the codes
+abbrev coded : Optional
+coded = record { terms = TermsColumns.MethodExercisedDraw; coded = true }
+
+head-long : length (writeHead coded Form.Shorts (large 0 0 0 0 .terms)) ≡ 51
 unfolding computing
 head-long = refl
 
@@ -126,8 +131,8 @@ over-coded = refl
 
 -- the length of a text with the code column
 text-long : (n code account short : ℕ) → writesCodes (large n code account short) ≡ true → length (writeText (large n code account short)) ≡ 51 + (33 * n + length (writeRow (code ∷ account ∷ short ∷ [])))
-unfolding writeText textWith large
-text-long n code account short coded = rw coded (length-append (writeHead true _ _) (writeRows (rowsOf (filled n code ∷ filled n account ∷ filled n short ∷ []))) ∙ ap₂ _+_ head-long (lines-long n code account short))
+unfolding writeText textWith writtenColumns termsColumns large
+text-long n code account short is = rw is (length-append (writeHead coded _ _) (writeRows (rowsOf (filled n code ∷ filled n account ∷ filled n short ∷ []))) ∙ ap₂ _+_ head-long (lines-long n code account short))
 
 most-long : length (writeText most) ≡ 32768
 unfolding computing most
@@ -140,12 +145,12 @@ over-long = text-long 991 100000 100 101 over-coded
 -- an output that is too short, and one that is not
 module _ (t : Listing) (l : Columns (t .codes) (t .accounts) (t .numbers)) (fits : length (writeText t) ≤ MOST_BYTES) (room : ℕ) where
   room-short : room < length (writeText t) → writeInto t room ≡ refused 4
-  unfolding writeInto writeText textWith
-  room-short lt = rw (lines-written (writeHead (writesCodes t) (t .form) (t .terms)) (writesCodes t) (t .codes) (t .accounts) (t .numbers) l, le-ltb MOST_BYTES _ fits, lt-ltb room _ lt)
+  unfolding writeInto writeText textWith writtenColumns
+  room-short lt = rw (lines-written (writeHead (writtenColumns t) (t .form) (t .terms)) (writesCodes t) (t .codes) (t .accounts) (t .numbers) l, le-ltb MOST_BYTES _ fits, lt-ltb room _ lt)
 
   room-enough : length (writeText t) ≤ room → writeInto t room ≡ value (writeText t)
-  unfolding writeInto writeText textWith
-  room-enough le = rw (lines-written (writeHead (writesCodes t) (t .form) (t .terms)) (writesCodes t) (t .codes) (t .accounts) (t .numbers) l, le-ltb MOST_BYTES _ fits, le-ltb room _ le)
+  unfolding writeInto writeText textWith writtenColumns
+  room-enough le = rw (lines-written (writeHead (writtenColumns t) (t .form) (t .terms)) (writesCodes t) (t .codes) (t .accounts) (t .numbers) l, le-ltb MOST_BYTES _ fits, le-ltb room _ le)
 
 too-many : lengthOf (writeInto (large 1024 1 2 3) 0) ≡ refused 15
 unfolding computing
@@ -171,6 +176,7 @@ most-writable =
     record {
       exercised = omega arith;
       draw = omega arith;
+      increment = omega arith;
       codes = filled-fits 991 10000 (omega arith);
       accounts = filled-fits 991 100 (omega arith);
       numbers = filled-fits 991 101 (omega arith);

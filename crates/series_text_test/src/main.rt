@@ -3,6 +3,7 @@ use forms::Form;
 use libc::STDIN_FILENO;
 use libc::STDOUT_FILENO;
 use series::Contracts;
+use series::DEFAULT_INCREMENT;
 use series::Method;
 use series::Refusal;
 use series::Terms;
@@ -48,12 +49,21 @@ fn print_form(form: Form) {
     }
 }
 
+// The increment, where it is another than is meant where none is given.
+fn print_increment(increment: Contracts) {
+    if increment.0 != DEFAULT_INCREMENT {
+        print(b"by ");
+        print_number(increment.0 as u64);
+    }
+}
+
 fn print_terms(terms: Terms) {
     let method = terms.method;
     let exercised = terms.exercised;
     print_method(method);
     print_number(exercised.0 as u64);
     print_number(terms.draw as u64);
+    print_increment(terms.increment);
 }
 
 fn print_refusal(refusal: Refusal) {
@@ -220,7 +230,12 @@ fn limits() {
 }
 
 fn terms(method: Method, exercised: u32, draw: u32) -> Terms {
-    terms_of(method, Contracts(exercised), draw)
+    terms_of(
+        method,
+        Contracts(exercised),
+        draw,
+        Contracts(DEFAULT_INCREMENT),
+    )
 }
 
 // What writing refuses: 1 for each list, and 4.

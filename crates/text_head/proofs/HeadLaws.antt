@@ -6,7 +6,7 @@ use mathlib.Core.List.{List, [], _∷_, _++_}
 use native.Mathlib.Omega.{arith}
 use borrow.Author.Tests.{lt-ltb, le-ltb}
 use lib.ListN.{length, getD, drop}
-use lib.Seq.{slice, slice-empty, slice-cons, getD-drop}
+use lib.Seq.{slice, slice-empty, slice-cons, drop-nil}
 use Rattle.series.specs.Results.{Result, refused, value, _>>=_}
 use Rattle.series.specs.declared.Method.{Method}
 use Rattle.series.specs.declared.Terms.{Terms}
@@ -44,16 +44,15 @@ pub terms-first : (k : ℕ) (s : Text) → refused 13 ≡ fieldBy COMMA s → re
 unfolding readTerms
 terms-first k s h = rw (← h)
 
--- numbers that are put first in a list of two zeros, as they are asked for
-pub values-read : (ns : List ℕ) (k i : ℕ) → getD (ns ++ drop k (0 ∷ 0 ∷ [])) i 0 ≡ getD ns i 0
-values-read [] k i = getD-drop k (0 ∷ 0 ∷ []) i 0 ∙ zeros (k + i)
+-- numbers that are put first in a list, as they are asked for: past them the list is as it was
+pub values-read : (ns l : List ℕ) (k i : ℕ) → length ns ≡ k → getD (ns ++ drop k l) i 0 ≡ getD ns i (getD l i 0)
+values-read ns l k i e = rw (← e) (go ns l i)
   where
-    zeros : (j : ℕ) → _≡_ {A = ℕ} (getD (0 ∷ 0 ∷ []) j 0) 0
-    zeros zero = refl
-    zeros (suc zero) = refl
-    zeros (suc (suc j)) = refl
-values-read (n ∷ ns) k zero = refl
-values-read (n ∷ ns) k (suc i) = values-read ns k i
+    go : (ns l : List ℕ) (i : ℕ) → getD (ns ++ drop (length ns) l) i 0 ≡ getD ns i (getD l i 0)
+    go [] l i = refl
+    go (n ∷ ns) l zero = refl
+    go (n ∷ ns) [] (suc i) = rw (drop-nil (length ns)) at (go ns [] i)
+    go (n ∷ ns) (m ∷ l) (suc i) = go ns l i
 
 -- what line 2 comes to, from its fields after the first and its method
 termsBy : Result (Read (List Text)) → Result Method → Result (Read Terms)
@@ -119,10 +118,6 @@ module _ (k : ℕ) (s : Text) {m : Read Text} (hm : value m ≡ fieldBy COMMA s)
         go (value fs) h = last (fs .rest) (numbers (fs .found)) h
 
 -- ---- lines 1 to 3
-
--- line 2 has room for as many numbers as any line 1 names
-pub few-numbers : (c : TermsColumns) → termsNumbers c ≤ 2
-few-numbers TermsColumns.MethodExercisedDraw = omega arith
 
 -- what is read from the start of the text on, line by line, stays within it
 pub onward-within : (s : Text) (i j k : ℕ) → Onward s 0 i → Onward s i j → Onward s j k → k ≤ length s

@@ -1,6 +1,7 @@
 // Reading lines 1 to 3 of a text.
 use forms::Form;
 use series::Contracts;
+use series::DEFAULT_INCREMENT;
 use series::Refusal;
 use series::Terms;
 use series::terms_of;
@@ -65,22 +66,28 @@ fn refuse_terms(text: &[u8], at: usize, comma: usize, numbers: usize) -> Refusal
     Refusal::Malformed
 }
 
-// Line 2 at an index, with so many numbers after the method: its fields first, then the method, then the numbers.
+// Line 2 at an index, with so many numbers after the method: its fields first, then the method, then the numbers. The increment keeps its value where none is given.
 fn read_terms(text: &[u8], at: usize, numbers: usize) -> TermsLine
-    requires { ⌜ numbers ≤ 2 ⌝ }
+    requires { ⌜ numbers ≤ 3 ⌝ }
     ensures { λ r. ⌜ TermsRead numbers (now (text .entry)) at r ⌝ }
 {
     let Found::At(comma) = find_end(text, at, b',') else {
         return TermsLine::Refused(Refusal::Malformed);
     };
-    let mut values = [0u32; 2];
+    let mut values = [0, 0, DEFAULT_INCREMENT];
     let RowEnd::At(next) = read_row(text, comma + 1, &mut values[..numbers]) else {
         return TermsLine::Refused(refuse_terms(text, at, comma, numbers));
     };
     let Named::Method(method) = read_method(text, at, comma) else {
         return TermsLine::Refused(Refusal::UnknownMethod);
     };
-    TermsLine::Terms(terms_of(method, Contracts(values[0]), values[1]), next)
+    let terms = terms_of(
+        method,
+        Contracts(values[0]),
+        values[1],
+        Contracts(values[2]),
+    );
+    TermsLine::Terms(terms, next)
 }
 
 // Lines 1 to 3 of a text that is not too long.

@@ -16,7 +16,7 @@ use Rattle.forms.proofs.FormLaws.{change-is, changed-back, changed-small, chang
 use Rattle.text_rules.specs.Numbers.{LARGEST}
 use Rattle.text_rules.specs.Fields.{Text}
 use Rattle.text_rules.specs.Rows.{writeParted, writeRow, writeRows, rowOf, rowsOf}
-use Rattle.text_rules.specs.Text.{MOST_BYTES, readText, writeHead, columnsBy, columns, textWith, writesCodes, writeText}
+use Rattle.text_rules.specs.Text.{MOST_BYTES, readText, writeHead, columnsBy, columns, textWith, writesCodes, writtenColumns, writeText}
 use Rattle.text_rules.specs.Lists.{Columns}
 use Rattle.text_rules.specs.Calls.{writeInto, changedInto, changeInto, MOST_CHANGED, lengthOf}
 use Rattle.text_rules.proofs.DecimalLaws.{digits-few, digits-within}
@@ -30,8 +30,8 @@ pub record Change (s : Text) (l o : Listing) : Type 0 where
   pub reads : readText s ≡ value l
   pub changes : changed l ≡ value o
 
--- an unrefused change has the codes, the accounts and the values of line 2 that it had
-same-parts : (l o : Listing) → changed l ≡ value o → (o .terms ≡ l .terms) × (o .codes ≡ l .codes) × (o .accounts ≡ l .accounts)
+-- an unrefused change has the codes, the accounts and the values of line 2 that it had, the increment among them
+pub same-parts : (l o : Listing) → changed l ≡ value o → (o .terms ≡ l .terms) × (o .codes ≡ l .codes) × (o .accounts ≡ l .accounts)
 same-parts l o h = subst (λ x. (x .terms ≡ l .terms) × (x .codes ≡ l .codes) × (x .accounts ≡ l .accounts)) (change-is l o h .other) (refl, refl, refl)
 
 small-fits : (ns : List ℕ) → ((i : ℕ) → i < length ns → getD ns i 0 ≤ MOST_CONTRACTS) → Fits ns
@@ -44,6 +44,7 @@ changed-writable l o w h =
     record {
       exercised = subst (λ t. t .exercised .0 ≤ LARGEST) (sym (same .0)) (w .exercised);
       draw = subst (λ t. t .draw ≤ LARGEST) (sym (same .0)) (w .draw);
+      increment = subst (λ t. t .increment .0 ≤ LARGEST) (sym (same .0)) (w .increment);
       codes = subst Fits (sym (same .1)) (w .codes);
       accounts = subst Fits (sym (same .2)) (w .accounts);
       numbers = small-fits (o .numbers) (changed-small l o h);
@@ -72,18 +73,19 @@ lines-short true codes accounts ns l small =
 lines-short false codes accounts ns l small =
     lines-most (rowOf (accounts ∷ ns ∷ [])) 31 (length accounts) (λ i h. line-short 0 (getD accounts i 0) (getD ns i 0) (omega (arith, small i (omega (arith, l .numbers)))) .1)
 
--- a changed text never passes 31,809 bytes
+-- a changed text never passes 31,830 bytes
 pub changed-short : (l o : Listing) → Writable l → changed l ≡ value o → length (writeText o) ≤ MOST_CHANGED
-unfolding writeText textWith
+unfolding writeText textWith writtenColumns
 changed-short l o w h =
     let c = writesCodes o in
+    let v = writtenColumns o in
     let lists = changed-writable l o w h .lists in
-    omega (arith, length-append (writeHead c (o .form) (o .terms)) (writeRows (rowsOf (columns c o))), head-room c (o .form) (o .terms), lines-short c (o .codes) (o .accounts) (o .numbers) lists (changed-small l o h), lists .few)
+    omega (arith, length-append (writeHead v (o .form) (o .terms)) (writeRows (rowsOf (columns c o))), head-room v (o .form) (o .terms), lines-short c (o .codes) (o .accounts) (o .numbers) lists (changed-small l o h), lists .few)
 
 -- writing what has columns of one length, and is not too long: only a short output refuses it
 write-short : (o : Listing) → Columns (o .codes) (o .accounts) (o .numbers) → length (writeText o) ≤ MOST_BYTES → (room : ℕ) → writeInto o room ≡ refuse (ltb room (length (writeText o))) 4 (writeText o)
-unfolding writeInto writeText textWith
-write-short o l fits room = rw (lines-written (writeHead (writesCodes o) (o .form) (o .terms)) (writesCodes o) (o .codes) (o .accounts) (o .numbers) l, le-ltb MOST_BYTES _ fits)
+unfolding writeInto writeText textWith writtenColumns
+write-short o l fits room = rw (lines-written (writeHead (writtenColumns o) (o .form) (o .terms)) (writesCodes o) (o .codes) (o .accounts) (o .numbers) l, le-ltb MOST_BYTES _ fits)
 
 -- what was read and whose list was judged is refused for a short output alone
 pub change-writes : (s : Text) (l o : Listing) → Change s l o → (room : ℕ) → changeInto s room ≡ refuse (ltb room (length (writeText o))) 4 (writeText o)

@@ -7,7 +7,7 @@ use mathlib.Core.List.{List, [], _∷_, _++_, map}
 use lib.ListN.{length, replicate}
 use Rattle.series.specs.Ascii.{ascii}
 use Rattle.series.specs.Results.{Result, refused, value, _>>=_, status}
-use Rattle.series.specs.Series.{termsOf}
+use Rattle.series.specs.Series.{DEFAULT_INCREMENT, termsOf}
 use Rattle.series.specs.Outputs.{onto, lent}
 use Rattle.series.specs.Places.{total}
 use Rattle.series.specs.Refusals.{first, lengthRows, roomRows, standsIn, without, accountRefused, positionRows, listRows, listVerdict}
@@ -20,13 +20,13 @@ use Rattle.text_rules.specs.Fields.{Text, Read, ends, field, past, field
 use Rattle.text_rules.specs.Rows.{numbers, readRow, readRows, writeParted, writeRows, rowsOf, column}
 use Rattle.text_rules.specs.Names.{line1, line3, termsLine, codeName, accountName, formName, accountLine, positionsLine, columnsIn, afterLine, namesOr, readNames}
 use Rattle.text_rules.specs.Letters.{letter, methodAmong, methodBy, methodOf}
-use Rattle.text_rules.specs.Text.{readTerms, readHead, readPositions, readText, writeTerms, writeHead, textWith, sameNumbers, writesCodes, writeText}
+use Rattle.text_rules.specs.Text.{readTerms, readHead, readPositions, readText, writeTerms, writeHead, textWith, sameNumbers, writesCodes, termsColumns, writtenColumns, writeText}
 use Rattle.text_rules.specs.Calls.{ListsRead, readInto, evenly, lineCount, headAndLines, linesInto, writeInto, changedInto, changeInto, tableInto, noteInto, lengthOf}
 use Rattle.text_rules.specs.declared.TermsColumns.{TermsColumns}
 use Rattle.text_rules.specs.declared.PositionColumns.{PositionColumns}
 
 -- the line `unfolding` names every definition that reading computes with
-reading : Text → Result Listing
+unfoldable pub reading : Text → Result Listing
 unfolding digit digits spelled amountFrom amount numeral number ends field past fieldBy endBefore readFields numbers readRow readRows column termsLine codeName accountName formName accountLine positionsLine afterLine namesOr readNames letter methodAmong methodBy methodOf readTerms readHead readPositions readText ascii
 reading s = readText s
 
@@ -35,7 +35,7 @@ pub M : Listing
 M =
     record {
       form = Form.Shorts;
-      terms = termsOf Method.Lottery 13 4855;
+      terms = termsOf Method.Lottery 13 4855 DEFAULT_INCREMENT;
       codes = 1 ∷ 2 ∷ 3 ∷ 4 ∷ 5 ∷ [];
       accounts = 1 ∷ 2 ∷ 3 ∷ 4 ∷ 5 ∷ [];
       numbers = 5 ∷ 8 ∷ 2 ∷ 10 ∷ 11 ∷ [];
@@ -61,7 +61,7 @@ pub M-coded : Listing
 M-coded =
     record {
       form = Form.Shorts;
-      terms = termsOf Method.Wheel 13 4855;
+      terms = termsOf Method.Wheel 13 4855 DEFAULT_INCREMENT;
       codes = 10 ∷ 20 ∷ 30 ∷ 40 ∷ 50 ∷ [];
       accounts = 1 ∷ 3 ∷ 2 ∷ 4 ∷ 5 ∷ [];
       numbers = 5 ∷ 8 ∷ 2 ∷ 10 ∷ 11 ∷ [];
@@ -75,8 +75,8 @@ unfolding reading M-coded coded-text
 coded-read = refl
 
 -- the definitions that writing computes with
-writing : Listing → ℕ → Result Text
-unfolding ascii decimalIn decimal writeNumber endBefore writeParted writeRows listed rowsOf termsLine codeName accountName formName accountLine positionsLine letter writeTerms writeHead textWith sameNumbers writesCodes writeText evenly lineCount headAndLines writeInto
+unfoldable pub writing : Listing → ℕ → Result Text
+unfolding ascii decimalIn decimal writeNumber endBefore writeParted writeRows listed rowsOf termsLine codeName accountName formName accountLine positionsLine letter writeTerms writeHead textWith sameNumbers writesCodes termsColumns writtenColumns writeText evenly lineCount headAndLines writeInto
 writing t room = writeInto t room
 
 -- without the code column
@@ -110,6 +110,10 @@ whole n s = record { number = n; text = ascii s }
 -- a text after a good line 1
 abbrev terms : ℕ → String → TextCase
 terms n s = record { number = n; text = termsLine TermsColumns.MethodExercisedDraw ++ ascii s }
+
+-- a text after a good line 1 with the increment
+abbrev incremented : ℕ → String → TextCase
+incremented n s = record { number = n; text = termsLine TermsColumns.MethodExercisedDrawIncrement ++ ascii s }
 
 -- a text after three good lines
 abbrev afterHead : Bool → ℕ → String → TextCase
@@ -151,6 +155,12 @@ texts =
     whole 12 "method,exercised,draw\r\nW,1,1\naccount,short\n" ∷
     whole 12 "method,exercised,draw" ∷
     whole 12 "method,exercised,drew\nW,1,1\naccount,short\n" ∷
+    -- with the increment: before the draw, no byte 10, a carriage return, another name, a capital letter
+    whole 12 "method,exercised,increment,draw\nW,1,10,1\naccount,short\n" ∷
+    whole 12 "method,exercised,draw,increment" ∷
+    whole 12 "method,exercised,draw,increment\r\nW,1,1,10\naccount,short\n" ∷
+    whole 12 "method,exercised,draw,increments\nW,1,1,10\naccount,short\n" ∷
+    whole 12 "Method,exercised,draw,increment\nW,1,1,10\naccount,short\n" ∷
     -- line 3: missing, no byte 10, a carriage return, another name
     terms 12 "W,1,1\n" ∷
     terms 12 "W,1,1\naccount,short" ∷
@@ -159,15 +169,25 @@ texts =
     terms 12 "W,1,1\ncode,account,short" ∷
     terms 12 "W,1,1\ncode,account,short\r\n1,1,1\n" ∷
     terms 12 "W,1,1\ncode,account,shorts\n1,1,1\n" ∷
+    incremented 12 "W,1,1,10\naccount,shorts\n1,1\n" ∷
     -- line 2: missing, empty, two fields, four fields, no byte 10
     terms 13 "" ∷
     terms 13 "\naccount,short\n" ∷
     terms 13 "W,1\naccount,short\n" ∷
     terms 13 "W,1,1,1\naccount,short\n" ∷
     terms 13 "W,1,1" ∷
-    -- an unknown method with a field missing; line 2 and line 3 both faulty
+    -- where line 1 has the increment: missing, three fields, five fields, no byte 10
+    incremented 13 "" ∷
+    incremented 13 "W,1,1\naccount,short\n" ∷
+    incremented 13 "W,1,1,10,1\naccount,short\n" ∷
+    incremented 13 "W,1,1,10" ∷
+    -- an unknown method with a field missing or too many; line 2 and line 3 both faulty
     terms 13 "X,1\naccount,short\n" ∷
+    terms 13 "X,1,1,10\naccount,short\n" ∷
+    incremented 13 "X,1,1\naccount,short\n" ∷
+    incremented 13 "X,1,1,10,1\naccount,short\n" ∷
     terms 13 "W,1,x\naccount,shorts\n" ∷
+    incremented 13 "W,1,1,x\naccount,shorts\n" ∷
     -- the method: unknown, a small letter, missing, two letters, unknown with a malformed number or empty fields and a faulty line 3
     terms 14 "X,1,1\naccount,short\n" ∷
     terms 14 "w,1,1\naccount,short\n" ∷
@@ -175,12 +195,23 @@ texts =
     terms 14 "WW,1,1\naccount,short\n" ∷
     terms 14 "X,x1,1\naccount,short\n" ∷
     terms 14 "X,,\naccount\n" ∷
+    incremented 14 "X,1,1,10\naccount,short\n" ∷
+    incremented 14 ",1,1,10\naccount,short\n" ∷
+    incremented 14 "X,1,1,x\naccount,short\n" ∷
+    incremented 14 "X,,,\naccount\n" ∷
     -- a number of line 2: empty, one above the largest, a sign, a space, a carriage return
     terms 13 "W,,1\naccount,short\n" ∷
     terms 13 "W,4294967296,1\naccount,short\n" ∷
     terms 13 "W,-1,1\naccount,short\n" ∷
     terms 13 "W, 1,1\naccount,short\n" ∷
     terms 13 "W,1,1\r\naccount,short\n" ∷
+    -- the increment: empty, a space after it or before it, a sign, a carriage return; the draw before it
+    incremented 13 "W,1,1,\naccount,short\n" ∷
+    incremented 13 "W,1,1,25 \naccount,short\n" ∷
+    incremented 13 "W,1,1, 25\naccount,short\n" ∷
+    incremented 13 "W,1,1,-1\naccount,short\n" ∷
+    incremented 13 "W,1,1,25\r\naccount,short\n" ∷
+    incremented 13 "W,1,,25\naccount,short\n" ∷
     -- a position line: empty, one number, three numbers, the last one without byte 10, empty fields
     lines 13 "\n" ∷
     lines 13 "1,1\n\n" ∷
@@ -241,11 +272,14 @@ pub record FieldCase : Type 0 where
   pub series : ℕ → Listing
 
 -- a series of one position under W
-abbrev one : ℕ → ℕ → ℕ → ℕ → ℕ → Listing
-one exercised draw code account short =
-    record { form = Form.Shorts; terms = termsOf Method.Wheel exercised draw; codes = code ∷ []; accounts = account ∷ []; numbers = short ∷ [] }
+abbrev oneBy : ℕ → ℕ → ℕ → ℕ → ℕ → ℕ → Listing
+oneBy increment exercised draw code account short =
+    record { form = Form.Shorts; terms = termsOf Method.Wheel exercised draw increment; codes = code ∷ []; accounts = account ∷ []; numbers = short ∷ [] }
 
--- the account, which is the code too, the shorts, the code, S and the draw
+abbrev one : ℕ → ℕ → ℕ → ℕ → ℕ → Listing
+one = oneBy DEFAULT_INCREMENT
+
+-- the account, which is the code too, the shorts, the code, S, the draw and the increment
 pub fields : List FieldCase
 fields =
     record { text = λ d. head false ++ d ++ ascii ",2\n"; series = λ n. one 1 1 n n 2 } ∷
@@ -254,7 +288,8 @@ fields =
     record { text = λ d. head true ++ ascii "9," ++ d ++ ascii ",2\n"; series = λ n. one 1 1 9 n 2 } ∷
     record { text = λ d. head true ++ ascii "9,7," ++ d ++ ascii "\n"; series = λ n. one 1 1 9 7 n } ∷
     record { text = λ d. termsLine TermsColumns.MethodExercisedDraw ++ ascii "W," ++ d ++ ascii ",1\naccount,short\n7,2\n"; series = λ n. one n 1 7 7 2 } ∷
-    record { text = λ d. termsLine TermsColumns.MethodExercisedDraw ++ ascii "W,1," ++ d ++ ascii "\naccount,short\n7,2\n"; series = λ n. one 1 n 7 7 2 } ∷ []
+    record { text = λ d. termsLine TermsColumns.MethodExercisedDraw ++ ascii "W,1," ++ d ++ ascii "\naccount,short\n7,2\n"; series = λ n. one 1 n 7 7 2 } ∷
+    record { text = λ d. termsLine TermsColumns.MethodExercisedDrawIncrement ++ ascii "W,1,1," ++ d ++ ascii "\naccount,short\n7,2\n"; series = λ n. oneBy n 1 1 7 7 2 } ∷ []
 
 -- each spelling in each field: the series with its number there, or 13
 pub spellings-judged : map (λ f. map (λ c. readText (f .text (c .digits))) spellings) fields ≡ map (λ f. map (λ c. c .number >>= λ n. value (f .series n)) spellings) fields
@@ -282,10 +317,23 @@ termsNames =
     -- the line, and nothing after it or a byte too many
     found "method,exercised,draw\n" TermsColumns.MethodExercisedDraw "" ∷
     found "method,exercised,draw\nW" TermsColumns.MethodExercisedDraw "W" ∷
+    found "method,exercised,draw,increment\n" TermsColumns.MethodExercisedDrawIncrement "" ∷
+    found "method,exercised,draw,increment\nW" TermsColumns.MethodExercisedDrawIncrement "W" ∷
     -- no byte 10, a byte too many before it, a byte too few
     unknown "method,exercised,draw" ∷
     unknown "method,exercised,draws\n" ∷
     unknown "method,exercised,dra\n" ∷
+    unknown "method,exercised,draw,increment" ∷
+    unknown "method,exercised,draw,increments\n" ∷
+    unknown "method,exercised,draw,incremen\n" ∷
+    -- a capital letter
+    unknown "Method,exercised,draw\n" ∷
+    unknown "Method,exercised,draw,increment\n" ∷
+    unknown "method,exercised,draw,Increment\n" ∷
+    -- a comma and no name, the increment before the draw
+    unknown "method,exercised,draw," ∷
+    unknown "method,exercised,draw,\n" ∷
+    unknown "method,exercised,increment,draw\n" ∷
     -- the words of line 3
     unknown "account,short\n" ∷
     unknown "code,account,short\n" ∷
@@ -385,7 +433,7 @@ pub M-lasts : Listing
 M-lasts =
     record {
       form = Form.LastNumbers;
-      terms = termsOf Method.Lottery 13 4855;
+      terms = termsOf Method.Lottery 13 4855 DEFAULT_INCREMENT;
       codes = 1 ∷ 2 ∷ 3 ∷ 4 ∷ 5 ∷ [];
       accounts = 1 ∷ 2 ∷ 3 ∷ 4 ∷ 5 ∷ [];
       numbers = 5 ∷ 13 ∷ 15 ∷ 25 ∷ 36 ∷ [];
@@ -403,12 +451,12 @@ unfolding writing M-lasts lasts-text
 lasts-written = refl
 
 -- no last number is judged in reading: they fall, and are 0 and the largest number. Nor in writing: `unjudged-written` below
-pub unjudged : readText (ascii "method,exercised,draw\nW,1,1\ncode,account,last\n1,9,4294967295\n2,8,0\n") ≡ value (record { form = Form.LastNumbers; terms = termsOf Method.Wheel 1 1; codes = 1 ∷ 2 ∷ []; accounts = 9 ∷ 8 ∷ []; numbers = 4294967295 ∷ 0 ∷ [] })
+pub unjudged : readText (ascii "method,exercised,draw\nW,1,1\ncode,account,last\n1,9,4294967295\n2,8,0\n") ≡ value (record { form = Form.LastNumbers; terms = termsOf Method.Wheel 1 1 DEFAULT_INCREMENT; codes = 1 ∷ 2 ∷ []; accounts = 9 ∷ 8 ∷ []; numbers = 4294967295 ∷ 0 ∷ [] })
 unfolding reading
 unjudged = refl
 
 -- the definitions that the change computes with
-changing : Text → ℕ → Result Text
+unfoldable pub changing : Text → ℕ → Result Text
 unfolding reading writing differences sums listVerdictIn listVerdict without listRows first lengthRows roomRows positionRows accountRefused standsIn total changed changedInto changeInto
 changing s room = changeInto s room
 
@@ -435,9 +483,14 @@ changeCases =
     -- S and the draw are not judged
     changes "method,exercised,draw\nL,0,0\naccount,short\n1,5\n" "method,exercised,draw\nL,0,0\naccount,last\n1,5\n" ∷
     changes "method,exercised,draw\nW,6,7\naccount,last\n1,5\n" "method,exercised,draw\nW,6,7\naccount,short\n1,5\n" ∷
+    -- the increment 10, with codes, there and back; a column with 25 is left out
+    changes "method,exercised,draw,increment\nW,175,1,10\ncode,account,short\n10,500,60\n20,700,200\n" "method,exercised,draw,increment\nW,175,1,10\ncode,account,last\n10,500,60\n20,700,260\n" ∷
+    changes "method,exercised,draw,increment\nW,175,1,10\ncode,account,last\n10,500,60\n20,700,260\n" "method,exercised,draw,increment\nW,175,1,10\ncode,account,short\n10,500,60\n20,700,200\n" ∷
+    changes "method,exercised,draw,increment\nW,175,1,25\naccount,short\n1,5\n" "method,exercised,draw\nW,175,1\naccount,last\n1,5\n" ∷
     -- the refusals of the text, of its line 2 and of a position line
     turns "" 12 ∷
     turns "method,exercised,draw\nX,1,1\naccount,last\n1,0\n" 14 ∷
+    turns "method,exercised,draw,increment\nL,1,1\naccount,last\n1,0\n" 13 ∷
     turns "method,exercised,draw\nL,1,1\naccount,last\n1,0\n2,x\n" 13 ∷
     -- those of the list: none, 5, 6 and 7
     turns "method,exercised,draw\nL,1,1\naccount,last\n" 3 ∷
@@ -520,8 +573,12 @@ unjudgedLists =
     -- no positions
     record { form = Form.LastNumbers; codes = []; accounts = []; numbers = []; text = ",0,0\naccount,last\n" } ∷ []
 
+-- the methods, whose letters are W, P, L and R
+abbrev pub methods : List Method
+methods = Method.Wheel ∷ Method.ProRata ∷ Method.Lottery ∷ Method.RemainderDraw ∷ []
+
 -- each is written under each method, with S and a draw of 0
-pub unjudged-written : map (λ m. map (λ u. writeInto (record { form = u .form; terms = termsOf m 0 0; codes = u .codes; accounts = u .accounts; numbers = u .numbers }) 32768) unjudgedLists) (Method.Wheel ∷ Method.ProRata ∷ Method.Lottery ∷ Method.RemainderDraw ∷ [])
+pub unjudged-written : map (λ m. map (λ u. writeInto (record { form = u .form; terms = termsOf m 0 0 DEFAULT_INCREMENT; codes = u .codes; accounts = u .accounts; numbers = u .numbers }) 32768) unjudgedLists) methods
     ≡ map (λ l. map (λ u. value (termsLine TermsColumns.MethodExercisedDraw ++ (l ∷ ascii (u .text)))) unjudgedLists) (ascii "WPLR")
 unfolding writing unjudgedLists
 unjudged-written = refl
@@ -570,7 +627,7 @@ tables-refused = refl
 
 -- two positions whose codes, accounts and numbers differ
 pub two : Listing
-two = record { form = Form.Shorts; terms = termsOf Method.Wheel 1 1; codes = 1 ∷ 2 ∷ []; accounts = 3 ∷ 4 ∷ []; numbers = 5 ∷ 6 ∷ [] }
+two = record { form = Form.Shorts; terms = termsOf Method.Wheel 1 1 DEFAULT_INCREMENT; codes = 1 ∷ 2 ∷ []; accounts = 3 ∷ 4 ∷ []; numbers = 5 ∷ 6 ∷ [] }
 
 -- each stands in its own list, before what stood past them; and after a refusal each list holds what it held
 pub lists-read : ListsRead (value two) (lent (7 ∷ 7 ∷ 7 ∷ []) (1 ∷ 2 ∷ 7 ∷ [])) (lent (8 ∷ 8 ∷ 8 ∷ []) (3 ∷ 4 ∷ 8 ∷ [])) (lent (9 ∷ 9 ∷ []) (5 ∷ 6 ∷ []))

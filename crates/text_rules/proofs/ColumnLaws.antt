@@ -84,10 +84,6 @@ rows-longer n c cs (x ∷ row) l e =
 numbers-by : (k : ℕ) (row : List ℕ) → length row ≡ k → listed (λ j. getD row j 0) k ≡ row
 numbers-by k row e = rw (← e) (listed-all 0 row)
 
-pub two-numbers : (row : List ℕ) → length row ≡ 2 → getD row 0 0 ∷ getD row 1 0 ∷ [] ≡ row
-unfolding listed
-two-numbers row e = numbers-by 2 row e
-
 -- one row more of three lists that are written
 pub rows-set : (xs ys zs : List ℕ) (n : ℕ) (row : List ℕ) → n < length xs → n < length ys → n < length zs → length row ≡ 3
     → rowsOf (take (n + 1) (set xs n (getD row 0 0)) ∷ take (n + 1) (set ys n (getD row 1 0)) ∷ take (n + 1) (set zs n (getD row 2 0)) ∷ []) ≡ rowsOf (take n xs ∷ take n ys ∷ take n zs ∷ []) ++ (row ∷ [])

@@ -9,7 +9,6 @@ use lib.ListN.{length, getD, drop, length-append, length-drop, length-map, drop-
 use lib.Seq.{drop-cons}
 use lib.Dec.{eqb, ltb}
 use borrow.Author.Tests.{eq-eqb, eqb-true, le-ltb, ltb-false, not-false}
-use Rattle.series.specs.Ascii.{ascii}
 use Rattle.series.specs.Sums.{sumBelow, listed}
 use Rattle.series.specs.Results.{value, refuse}
 use Rattle.series.specs.declared.Terms.{Terms}
@@ -19,13 +18,13 @@ use Rattle.forms.specs.declared.Form.{Form}
 use Rattle.text_rules.specs.Numbers.{decimal}
 use Rattle.text_rules.specs.Fields.{Text, COMMA, NEWLINE, endBefore, writeNumber}
 use Rattle.text_rules.specs.Rows.{writeParted, writeRow, writeRows, rowOf, rowsOf}
-use Rattle.text_rules.specs.Names.{termsLine, columnsIn, positionsLine}
-use Rattle.text_rules.specs.Text.{MOST_LINES, writeTerms, writeHead, columnsBy}
+use Rattle.text_rules.specs.Names.{termsLine, termsNumbers, columnsIn, positionsLine}
+use Rattle.text_rules.specs.Text.{MOST_LINES, termsRow, writeTerms, Optional, writeHead, columnsBy}
 use Rattle.text_rules.specs.declared.TermsColumns.{TermsColumns}
-use Rattle.text_rules.specs.Lists.{Columns, Plain}
+use Rattle.text_rules.specs.Lists.{Columns, PlainCodes}
 use Rattle.text_rules.specs.Calls.{evenly, lineCount, headAndLines}
 use Rattle.text_rules.proofs.FieldLaws.{and-true-parts}
-use Rattle.text_rules.proofs.NameLaws.{code-room, form-room, length-positions}
+use Rattle.text_rules.proofs.NameLaws.{terms-line-room, code-room, form-room, length-positions}
 use Rattle.text_rules.proofs.RowLaws.{Each, row-few}
 
 pub length-number : (n c : ℕ) → length (writeNumber n c) ≡ length (decimal n) + 1
@@ -118,17 +117,36 @@ rows-room (c ∷ cs) = lines-room (rowOf (c ∷ cs)) (length (c ∷ cs)) (length
 -- ---- lines 1 to 3
 
 -- their length is that of their parts
-pub length-head : (c : Bool) (f : Form) (t : Terms) → length (writeHead c f t) ≡ length (termsLine TermsColumns.MethodExercisedDraw) + (2 + length (writeRow (t .exercised .0 ∷ t .draw ∷ []))) + length (positionsLine (columnsIn f c))
+pub length-head : (o : Optional) (f : Form) (t : Terms) → length (writeHead o f t) ≡ length (termsLine (o .terms)) + (2 + length (writeRow (termsRow (o .terms) t))) + length (positionsLine (columnsIn f (o .coded)))
 unfolding writeHead writeTerms
-length-head c f t =
-    omega (arith, length-append (termsLine TermsColumns.MethodExercisedDraw) (writeTerms t ++ positionsLine (columnsIn f c)), length-append (writeTerms t) (positionsLine (columnsIn f c)))
+length-head o f t =
+    let second : Text = writeTerms (o .terms) t in
+    let third : Text = positionsLine (columnsIn f (o .coded)) in
+    omega (arith, length-append (termsLine (o .terms)) (second ++ third), length-append second third)
+
+-- line 2 has as many numbers as line 1 names
+pub length-terms : (c : TermsColumns) (t : Terms) → length (termsRow c t) ≡ termsNumbers c
+length-terms TermsColumns.MethodExercisedDraw t = refl
+length-terms TermsColumns.MethodExercisedDrawIncrement t = refl
+
+-- at most three
+pub few-numbers : (c : TermsColumns) → termsNumbers c ≤ 3
+few-numbers TermsColumns.MethodExercisedDraw = omega arith
+few-numbers TermsColumns.MethodExercisedDrawIncrement = omega arith
+
+pub terms-few : (c : TermsColumns) (t : Terms) → length (termsRow c t) ≤ 3
+terms-few c t = omega (arith, length-terms c t, few-numbers c)
+
+pub terms-room : (c : TermsColumns) (t : Terms) → length (writeTerms c t) ≤ 35
+unfolding writeTerms
+terms-room c t = omega (arith, row-few (termsRow c t), terms-few c t)
 
 pub columns-room : (f : Form) (c : Bool) → length (positionsLine (columnsIn f c)) ≤ 19
 columns-room f c = omega (arith, length-positions f c, code-room c, form-room f)
 
-pub head-room : (c : Bool) (f : Form) (t : Terms) → length (writeHead c f t) ≤ 65
-unfolding termsLine ascii
-head-room c f t = omega (arith, length-head c f t, columns-room f c, row-few (t .exercised .0 ∷ t .draw ∷ []))
+pub head-room : (o : Optional) (f : Form) (t : Terms) → length (writeHead o f t) ≤ 86
+unfolding writeTerms
+head-room o f t = omega (arith, length-head o f t, terms-line-room (o .terms), terms-room (o .terms) t, columns-room f (o .coded))
 
 -- ---- a head and lines
 
@@ -139,7 +157,7 @@ even-each n [] e = tt
 even-each n (c ∷ cs) e = let both = and-true-parts (eqb (length c) n) (evenly n cs) e in (eqb-true (length c) n (both .0), even-each n cs (both .1))
 
 -- columns that are as long as the first, with the codes or without them
-pub even-lengths : (c : Bool) (codes accounts shorts : List ℕ) (n : ℕ) → Plain c codes accounts → Each (λ l. length l ≡ n) (columnsBy c codes accounts shorts) → (length codes ≡ length accounts) × (length shorts ≡ length accounts)
+pub even-lengths : (c : Bool) (codes accounts shorts : List ℕ) (n : ℕ) → PlainCodes c codes accounts → Each (λ l. length l ≡ n) (columnsBy c codes accounts shorts) → (length codes ≡ length accounts) × (length shorts ≡ length accounts)
 even-lengths true codes accounts shorts n plain each = (omega arith, omega arith)
 even-lengths false codes accounts shorts n plain each = (ap length (plain refl), omega arith)
 
@@ -153,7 +171,7 @@ unfolding evenly
 columns-even true codes accounts shorts same beside = rw (count-by true codes accounts shorts same, eq-eqb (length codes) (length accounts) same, eq-eqb (length accounts) (length accounts) refl, eq-eqb (length shorts) (length accounts) beside)
 columns-even false codes accounts shorts same beside = rw (count-by false codes accounts shorts same, eq-eqb (length accounts) (length accounts) refl, eq-eqb (length shorts) (length accounts) beside)
 
-pub even-columns : (c : Bool) (codes accounts shorts : List ℕ) (n : ℕ) → Plain c codes accounts → Each (λ l. length l ≡ n) (columnsBy c codes accounts shorts) → lineCount (columnsBy c codes accounts shorts) ≤ MOST_LINES → Columns codes accounts shorts
+pub even-columns : (c : Bool) (codes accounts shorts : List ℕ) (n : ℕ) → PlainCodes c codes accounts → Each (λ l. length l ≡ n) (columnsBy c codes accounts shorts) → lineCount (columnsBy c codes accounts shorts) ≤ MOST_LINES → Columns codes accounts shorts
 even-columns c codes accounts shorts n plain each few =
     let both = even-lengths c codes accounts shorts n plain each in
     record { codes = both .0; numbers = both .1; few = omega (arith, count-by c codes accounts shorts (both .0)) }

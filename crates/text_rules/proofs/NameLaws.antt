@@ -12,7 +12,7 @@ use Rattle.series.specs.Results.{Result, refused, value, _>>=_}
 use Rattle.series.proofs.ResultLaws.{never, value-is}
 use Rattle.forms.specs.declared.Form.{Form}
 use Rattle.text_rules.specs.Fields.{Text, Read}
-use Rattle.text_rules.specs.Names.{codeName, accountName, formName, accountLine, positionsLine, columnsIn, inForms, line3, afterLine, namesOr, readNames}
+use Rattle.text_rules.specs.Names.{line1, termsLine, codeName, accountName, formName, accountLine, positionsLine, columnsIn, inForms, line3, afterLine, namesOr, readNames}
 use Rattle.text_rules.specs.declared.TermsColumns.{TermsColumns}
 
 -- ---- a line
@@ -46,10 +46,6 @@ after-is (a ∷ p) (b ∷ s) u e = go (after-is p s u) (eqb a b) refl e
 -- ---- the known lines
 
 module _ {A : Type 0} (line : A → Text) where
-  pub names-back : (c : A) (known : List A) (s : Text) → readNames line (c ∷ known) (line c ++ s) ≡ value (record { found = c; rest = s })
-  unfolding readNames namesOr
-  names-back c known s = rw (after-back (line c) s)
-
   -- the text is the line of the columns that were found, and then what is left
   pub names-are : (known : List A) (s : Text) (x : Read A) → readNames line known s ≡ value x → s ≡ line (x .found) ++ x .rest
   unfolding readNames namesOr
@@ -76,9 +72,25 @@ module _ {A : Type 0} (line : A → Text) where
 
 -- ---- line 1
 
--- it has one line so far
-pub only-terms : (c : TermsColumns) → c ≡ TermsColumns.MethodExercisedDraw
-only-terms TermsColumns.MethodExercisedDraw = refl
+-- it is read back, with the increment or without it
+pub terms-line-back : (c : TermsColumns) (s : Text) → readNames termsLine line1 (termsLine c ++ s) ≡ value (record { found = c; rest = s })
+unfolding readNames namesOr afterLine termsLine ascii
+terms-line-back TermsColumns.MethodExercisedDraw s = refl
+terms-line-back TermsColumns.MethodExercisedDrawIncrement s = refl
+
+-- the two are not the same
+pub increment-named : TermsColumns.MethodExercisedDrawIncrement ≡ TermsColumns.MethodExercisedDraw → ⊥
+increment-named e = let z : _≡_ {A = ℕ} 0 1 = cc in omega arith
+
+pub terms-line-room : (c : TermsColumns) → length (termsLine c) ≤ 32
+unfolding termsLine ascii
+terms-line-room TermsColumns.MethodExercisedDraw = omega arith
+terms-line-room TermsColumns.MethodExercisedDrawIncrement = omega arith
+
+-- the increment makes it longer
+pub increment-longer : length (termsLine TermsColumns.MethodExercisedDraw) < length (termsLine TermsColumns.MethodExercisedDrawIncrement)
+unfolding termsLine ascii
+increment-longer = omega arith
 
 -- ---- line 3 by its words
 

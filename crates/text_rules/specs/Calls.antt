@@ -12,7 +12,7 @@ use Rattle.forms.specs.Forms.{Listing, changed}
 use Rattle.forms.specs.declared.Form.{Form}
 use Rattle.text_rules.specs.Fields.{Text}
 use Rattle.text_rules.specs.Rows.{writeRows, rowsOf}
-use Rattle.text_rules.specs.Text.{MOST_BYTES, MOST_LINES, readText, writeHead, writesCodes, columns}
+use Rattle.text_rules.specs.Text.{MOST_BYTES, MOST_LINES, readText, writeHead, writesCodes, writtenColumns, columns}
 
 -- what reading hands back: the form, the values of line 2 and the number of positions
 pub record Handed : Type 0 where
@@ -73,11 +73,11 @@ linesInto head cs room = do
 -- Codes of another length than the accounts are not the same numbers, so that their column stands among the others, and 1 is met
 unfoldable pub writeInto : Listing → ℕ → Result Text
 writeInto t room = do
-  s ← headAndLines (writeHead (writesCodes t) (t .form) (t .terms)) (columns (writesCodes t) t)
+  s ← headAndLines (writeHead (writtenColumns t) (t .form) (t .terms)) (columns (writesCodes t) t)
   s ← refuse (ltb MOST_BYTES (length s)) 11 s
   refuse (ltb room (length s)) 4 s
 
--- the change of a listing, written to an output of length room: its list is judged by its method (S and the draw are not), and it is written in the other form
+-- the change of a listing, written to an output of length room: its list is judged by its method (S, the draw and the increment are not), and it is written in the other form
 unfoldable pub changedInto : Listing → ℕ → Result Text
 changedInto l room = do
   o ← changed l
@@ -91,7 +91,7 @@ changeInto s room = do
 
 -- no changed text is longer: lines 1 to 3, and 1,024 lines of at most 31 bytes
 abbrev pub MOST_CHANGED : ℕ
-MOST_CHANGED = 31809
+MOST_CHANGED = 31830
 
 -- writing a table: a names line as given, then a line for each account and its count
 unfoldable pub tableInto : Text → List ℕ → List ℕ → ℕ → Result Text

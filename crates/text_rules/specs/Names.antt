@@ -13,10 +13,12 @@ use Rattle.text_rules.specs.declared.PositionColumns.{PositionColumns}
 -- line 1
 unfoldable pub termsLine : TermsColumns → Text
 termsLine TermsColumns.MethodExercisedDraw = ascii "method,exercised,draw\n"
+termsLine TermsColumns.MethodExercisedDrawIncrement = ascii "method,exercised,draw,increment\n"
 
 -- how many numbers line 2 has after the method
 abbrev pub termsNumbers : TermsColumns → ℕ
 termsNumbers TermsColumns.MethodExercisedDraw = 2
+termsNumbers TermsColumns.MethodExercisedDrawIncrement = 3
 
 -- the name of the code column, where there is one
 unfoldable pub codeName : Bool → Text
@@ -42,7 +44,7 @@ positionsLine c = codeName (c .coded) ++ accountLine c
 
 -- what line 1 may name
 abbrev pub line1 : List TermsColumns
-line1 = TermsColumns.MethodExercisedDraw ∷ []
+line1 = TermsColumns.MethodExercisedDraw ∷ TermsColumns.MethodExercisedDrawIncrement ∷ []
 
 -- the columns of position lines in a form, with a code or without one
 abbrev pub columnsIn : Form → Bool → PositionColumns

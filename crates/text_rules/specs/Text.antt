@@ -1,11 +1,11 @@
 -- The text of a series, read and written line by line.
 use Prim.Native.Nat.{ℕ}
 use mathlib.Core.List.{List, [], _∷_, _++_}
-use mathlib.Core.Bool.{Bool, true, false, not, _&&_}
+use mathlib.Core.Bool.{Bool, true, false, not, _&&_, cond}
 use lib.Dec.{eqb, ltb}
 use lib.ListN.{length, getD}
 use Rattle.series.specs.Results.{Result, value, _>>=_, refuse}
-use Rattle.series.specs.Series.{termsOf}
+use Rattle.series.specs.Series.{DEFAULT_INCREMENT, termsOf}
 use Rattle.series.specs.declared.Method.{Method}
 use Rattle.series.specs.declared.Terms.{Terms}
 use Rattle.forms.specs.Forms.{Listing}
@@ -24,9 +24,9 @@ MOST_BYTES = 32768
 abbrev pub MOST_LINES : ℕ
 MOST_LINES = 1024
 
--- the terms of a method and of the numbers after it in line 2: S and the draw
+-- the terms of a method and of the numbers after it in line 2: S, the draw and the increment, which is 25 where no third number is given
 abbrev pub termsFrom : Method → List ℕ → Terms
-termsFrom how ns = termsOf how (getD ns 0 0) (getD ns 1 0)
+termsFrom how ns = termsOf how (getD ns 0 0) (getD ns 1 0) (getD ns 2 DEFAULT_INCREMENT)
 
 -- line 2 with k numbers after the method: 13 not so many fields and byte 10; then 14 method unknown; then 13 a number malformed
 unfoldable pub readTerms : ℕ → Text → Result (Read Terms)
@@ -74,13 +74,23 @@ readText s = do
   h ← readHead s
   readPositions (h .found) (h .rest)
 
--- line 2
-unfoldable pub writeTerms : Terms → Text
-writeTerms t = letter (t .method) ∷ COMMA ∷ writeRow (t .exercised .0 ∷ t .draw ∷ [])
+-- the numbers of line 2
+abbrev pub termsRow : TermsColumns → Terms → List ℕ
+termsRow TermsColumns.MethodExercisedDraw t = t .exercised .0 ∷ t .draw ∷ []
+termsRow TermsColumns.MethodExercisedDrawIncrement t = t .exercised .0 ∷ t .draw ∷ t .increment .0 ∷ []
 
--- lines 1 to 3, for position lines in a form, with a code or without one
-unfoldable pub writeHead : Bool → Form → Terms → Text
-writeHead c f t = termsLine TermsColumns.MethodExercisedDraw ++ (writeTerms t ++ positionsLine (columnsIn f c))
+-- line 2
+unfoldable pub writeTerms : TermsColumns → Terms → Text
+writeTerms c t = letter (t .method) ∷ COMMA ∷ writeRow (termsRow c t)
+
+-- the columns of a text that may be left out: the increment in lines 1 and 2, the code in line 3 and the position lines
+pub record Optional : Type 0 where
+  pub terms : TermsColumns
+  pub coded : Bool
+
+-- lines 1 to 3, for position lines in a form
+unfoldable pub writeHead : Optional → Form → Terms → Text
+writeHead o f t = termsLine (o .terms) ++ (writeTerms (o .terms) t ++ positionsLine (columnsIn f (o .coded)))
 
 -- the columns of the position lines, with the codes or without them
 abbrev pub columnsBy : Bool → List ℕ → List ℕ → List ℕ → List (List ℕ)
@@ -91,9 +101,9 @@ columnsBy false codes accounts numbers = accounts ∷ numbers ∷ []
 abbrev pub columns : Bool → Listing → List (List ℕ)
 columns c t = columnsBy c (t .codes) (t .accounts) (t .numbers)
 
--- the text of a listing, with the code column or without it
-unfoldable pub textWith : Bool → Listing → Text
-textWith c t = writeHead c (t .form) (t .terms) ++ writeRows (rowsOf (columns c t))
+-- the text of a listing, with the optional columns or without them
+unfoldable pub textWith : Optional → Listing → Text
+textWith o t = writeHead o (t .form) (t .terms) ++ writeRows (rowsOf (columns (o .coded) t))
 
 -- the two lists hold the same numbers
 unfoldable pub sameNumbers : List ℕ → List ℕ → Bool
@@ -106,6 +116,14 @@ sameNumbers (m ∷ ms) (n ∷ ns) = eqb m n && sameNumbers ms ns
 unfoldable pub writesCodes : Listing → Bool
 writesCodes t = not (sameNumbers (t .codes) (t .accounts))
 
--- the text of a listing: the code column is left out exactly where the text without it reads back as the same listing (`left-out` and `left-out-only` in RoundTrip)
+-- line 1: the increment is named where it is not 25, whatever the method
+unfoldable pub termsColumns : Terms → TermsColumns
+termsColumns t = cond (eqb (t .increment .0) DEFAULT_INCREMENT) TermsColumns.MethodExercisedDraw TermsColumns.MethodExercisedDrawIncrement
+
+-- the optional columns that are written
+unfoldable pub writtenColumns : Listing → Optional
+writtenColumns t = record { terms = termsColumns (t .terms); coded = writesCodes t }
+
+-- the text of a listing: a column is left out exactly where the text without it reads back as the same listing (`left-out` and `left-out-only` in RoundTrip)
 unfoldable pub writeText : Listing → Text
-writeText t = textWith (writesCodes t) t
+writeText t = textWith (writtenColumns t) t

@@ -19,13 +19,18 @@ use Rattle.text_words.specs.declared.names.PositionNames.{PositionNames}
 -- ---- line 1
 
 module _ {s : Text} {at : ℕ} where
-  pub terms-there : {next : ℕ} → LineRead (termsLine TermsColumns.MethodExercisedDraw) s at (Line.Ends next) → TermsNamesRead s at (TermsNames.Line TermsColumns.MethodExercisedDraw next)
+  pub without-increment : {next : ℕ} → LineRead (termsLine TermsColumns.MethodExercisedDraw) s at (Line.Ends next) → TermsNamesRead s at (TermsNames.Line TermsColumns.MethodExercisedDraw next)
   unfolding readNames namesOr
-  terms-there h = record { means = rw (← h .means); onward = h .onward }
+  without-increment h = record { means = rw (← h .means); onward = h .onward }
 
-  pub terms-missing : LineRead (termsLine TermsColumns.MethodExercisedDraw) s at Line.Missing → TermsNamesRead s at TermsNames.Unknown
-  unfolding readNames namesOr
-  terms-missing h = record { means = rw (← h .means); onward = tt }
+  module _ (other : LineRead (termsLine TermsColumns.MethodExercisedDraw) s at Line.Missing) where
+    pub with-increment : {next : ℕ} → LineRead (termsLine TermsColumns.MethodExercisedDrawIncrement) s at (Line.Ends next) → TermsNamesRead s at (TermsNames.Line TermsColumns.MethodExercisedDrawIncrement next)
+    unfolding readNames namesOr
+    with-increment h = record { means = rw (← other .means, ← h .means); onward = h .onward }
+
+    pub terms-missing : LineRead (termsLine TermsColumns.MethodExercisedDrawIncrement) s at Line.Missing → TermsNamesRead s at TermsNames.Unknown
+    unfolding readNames namesOr
+    terms-missing h = record { means = rw (← other .means, ← h .means); onward = tt }
 
 -- ---- line 3
 

@@ -20,8 +20,11 @@ pub enum PositionNames {
     Unknown,
 }
 
-// Line 1.
+// Line 1 without the increment.
 pub const TERMS_NAMES: [u8; 22] = *b"method,exercised,draw\n";
+
+// Line 1 with it.
+pub const INCREMENT_NAMES: [u8; 32] = *b"method,exercised,draw,increment\n";
 
 // The name of the code column.
 pub const CODE_NAME: [u8; 5] = *b"code,";
@@ -39,10 +42,13 @@ pub const LAST_NAME: [u8; 5] = *b"last\n";
 pub fn read_terms_names(text: &[u8], at: usize) -> TermsNames
     ensures { λ r. ⌜ TermsNamesRead (now (text .entry)) at r ⌝ }
 {
-    let Line::Ends(next) = skip_line(text, at, &TERMS_NAMES) else {
+    if let Line::Ends(next) = skip_line(text, at, &TERMS_NAMES) {
+        return TermsNames::Line(TermsColumns::MethodExercisedDraw, next);
+    }
+    let Line::Ends(next) = skip_line(text, at, &INCREMENT_NAMES) else {
         return TermsNames::Unknown;
     };
-    TermsNames::Line(TermsColumns::MethodExercisedDraw, next)
+    TermsNames::Line(TermsColumns::MethodExercisedDrawIncrement, next)
 }
 
 // How many numbers line 2 has after the method.
@@ -51,6 +57,7 @@ pub fn terms_numbers(columns: TermsColumns) -> usize
 {
     match columns {
         TermsColumns::MethodExercisedDraw => 2,
+        TermsColumns::MethodExercisedDrawIncrement => 3,
     }
 }
 

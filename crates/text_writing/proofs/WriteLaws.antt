@@ -16,11 +16,11 @@ use Rattle.series.specs.Sums.{listed}
 use Rattle.series.specs.declared.Terms.{Terms}
 use Rattle.text_rules.specs.Fields.{Text, COMMA}
 use Rattle.text_rules.specs.Rows.{writeRow, writeRows, rowOf, rowsOf}
-use Rattle.text_rules.specs.Names.{termsLine, columnsIn, positionsLine}
+use Rattle.text_rules.specs.Names.{termsLine, termsNumbers, columnsIn, positionsLine}
 use Rattle.text_rules.specs.Letters.{letter}
-use Rattle.text_rules.specs.Text.{MOST_BYTES, MOST_LINES, writeTerms, writeHead, columnsBy, columns, writesCodes}
+use Rattle.text_rules.specs.Text.{MOST_BYTES, MOST_LINES, termsRow, writeTerms, Optional, writeHead, columnsBy, columns, writesCodes, writtenColumns}
 use Rattle.text_rules.specs.declared.TermsColumns.{TermsColumns}
-use Rattle.text_rules.specs.Lists.{Plain}
+use Rattle.text_rules.specs.Lists.{PlainCodes}
 use Rattle.text_rules.specs.Calls.{evenly, lineCount, headAndLines, linesInto, writeInto, lengthOf, WritingCall}
 use Rattle.text_writing.specs.Parts.{Put, written, leftOut, Unwritten, FiveColumns}
 use Rattle.text_writing.specs.Tables.{tablesInto, bothWithin}
@@ -31,30 +31,36 @@ use Rattle.text_rules.proofs.WritingLaws.{refused-writes}
 use Rattle.text_writing.proofs.PutLaws.{placed-onto, put-append, put-byte}
 
 -- line 2: the letter and a comma, and then the row
-put-terms : (t : Terms) (old : List ℕ) (at : ℕ) (new : List ℕ) (n : ℕ) → at + length (writeTerms t) ≤ length old
-    → Put (writeRow (t .exercised .0 ∷ t .draw ∷ [])) (set (set old at (letter (t .method))) (at + 1) COMMA) (at + 2) new n → Put (writeTerms t) old at new n
+put-terms : (c : TermsColumns) (t : Terms) (old : List ℕ) (at : ℕ) (new : List ℕ) (n : ℕ) → at + length (writeTerms c t) ≤ length old
+    → Put (writeRow (termsRow c t)) (set (set old at (letter (t .method))) (at + 1) COMMA) (at + 2) new n → Put (writeTerms c t) old at new n
 unfolding writeTerms
-put-terms t old at new n fits p =
+put-terms c t old at new n fits p =
     let l : ℕ = letter (t .method) in
     let second : at + 1 < length (set old at l) = rw length-set (omega arith) in
     let two = put-append (l ∷ []) (COMMA ∷ []) old at (set old at l) (set (set old at l) (at + 1) COMMA) (at + 1) (at + 1 + 1) (omega arith)
     (put-byte l old at (omega arith)) (put-byte COMMA (set old at l) (at + 1) second) in
     let both : Put (l ∷ COMMA ∷ []) old at (set (set old at l) (at + 1) COMMA) (at + 2) = record { text = two .text; after = refl } in
-    put-append (l ∷ COMMA ∷ []) (writeRow (t .exercised .0 ∷ t .draw ∷ [])) old at (set (set old at l) (at + 1) COMMA) new (at + 2) n (omega arith) both p
+    put-append (l ∷ COMMA ∷ []) (writeRow (termsRow c t)) old at (set (set old at l) (at + 1) COMMA) new (at + 2) n (omega arith) both p
 
--- the three lines are put one after the other
-pub put-head : (c : Bool) (f : Form) (t : Terms) (old s1 s2 new : List ℕ) (i1 i2 n : ℕ) → length (writeHead c f t) ≤ length old → length s1 ≡ length old → Put (termsLine TermsColumns.MethodExercisedDraw) old 0 s1 i1
-    → Put (writeRow (t .exercised .0 ∷ t .draw ∷ [])) (set (set s1 i1 (letter (t .method))) (i1 + 1) COMMA) (i1 + 2) s2 i2 → Put (positionsLine (columnsIn f c)) s2 i2 new n → Put (writeHead c f t) old 0 new n
+-- the numbers of line 2 are the first of three
+pub terms-taken : (c : TermsColumns) (t : Terms) → take (termsNumbers c) (t .exercised .0 ∷ t .draw ∷ t .increment .0 ∷ []) ≡ termsRow c t
+terms-taken TermsColumns.MethodExercisedDraw t = refl
+terms-taken TermsColumns.MethodExercisedDrawIncrement t = refl
+
+-- the three lines are put one after the other, l being the letter and row the numbers of line 2
+pub put-head : (o : Optional) (f : Form) (t : Terms) (old s1 s2 new : List ℕ) (i1 i2 n l : ℕ) (row : List ℕ) → l ≡ letter (t .method) → row ≡ termsRow (o .terms) t → length (writeHead o f t) ≤ length old → length s1 ≡ length old → Put (termsLine (o .terms)) old 0 s1 i1
+    → Put (writeRow row) (set (set s1 i1 l) (i1 + 1) COMMA) (i1 + 2) s2 i2 → Put (positionsLine (columnsIn f (o .coded))) s2 i2 new n → Put (writeHead o f t) old 0 new n
 unfolding writeHead
-put-head c f t old s1 s2 new i1 i2 n room long p1 p2 p3 =
-    let names : Text = termsLine TermsColumns.MethodExercisedDraw in
-    let columns : Text = positionsLine (columnsIn f c) in
-    let e1 = length-append names (writeTerms t ++ columns) in
-    let e2 = length-append (writeTerms t) columns in
-    let e3 = length-append names (writeTerms t) in
-    let line2 = put-terms t s1 i1 s2 i2 (omega (arith, p1 .after)) p2 in
-    let q2 = put-append names (writeTerms t) old 0 s1 s2 i1 i2 (omega arith) p1 line2 in
-    rw (append-assoc names (writeTerms t) columns) at (put-append (names ++ writeTerms t) columns old 0 s2 new i2 n (omega arith) q2 p3)
+put-head o f t old s1 s2 new i1 i2 n l row el er room long p1 p2 p3 =
+    let names : Text = termsLine (o .terms) in
+    let second : Text = writeTerms (o .terms) t in
+    let columns : Text = positionsLine (columnsIn f (o .coded)) in
+    let e1 = length-append names (second ++ columns) in
+    let e2 = length-append second columns in
+    let e3 = length-append names second in
+    let line2 = put-terms (o .terms) t s1 i1 s2 i2 (omega (arith, p1 .after)) (rw (el, er) at p2) in
+    let q2 = put-append names second old 0 s1 s2 i1 i2 (omega arith) p1 line2 in
+    rw (append-assoc names second columns) at (put-append (names ++ second) columns old 0 s2 new i2 n (omega arith) q2 p3)
 
 -- ---- the columns
 
@@ -127,7 +133,7 @@ pub columns-written : (c : Bool) (codes accounts shorts : List ℕ) → written 
 columns-written true codes accounts shorts = refl
 columns-written false codes accounts shorts = refl
 
-pub series-unwritten : (c : Bool) (codes accounts : List ℕ) → Plain c codes accounts → Unwritten (leftOut c) accounts accounts codes accounts
+pub series-unwritten : (c : Bool) (codes accounts : List ℕ) → PlainCodes c codes accounts → Unwritten (leftOut c) accounts accounts codes accounts
 series-unwritten true codes accounts plain = record { few = omega arith; first = λ _. refl; second = λ _. refl; third = λ lt. absurd (omega arith) }
 series-unwritten false codes accounts plain = record { few = omega arith; first = λ _. refl; second = λ _. refl; third = λ _. ap length (plain refl) }
 
@@ -212,7 +218,7 @@ module _ (head : Text) (cs : List (List ℕ)) (n : ℕ) (m : Measured head cs n)
   unfolding linesInto
   lines-put room new k p = put-writes _ old (head ++ writeRows (rowsOf cs)) new k (rw (m .is, ← m .bytes, le-ltb (length old) n room)) p
 
-module _ (t : Listing) (n : ℕ) (m : Measured (writeHead (writesCodes t) (t .form) (t .terms)) (columns (writesCodes t) t) n) (old : Text) where
+module _ (t : Listing) (n : ℕ) (m : Measured (writeHead (writtenColumns t) (t .form) (t .terms)) (columns (writesCodes t) t) n) (old : Text) where
   -- the text would pass 32,768 bytes
   pub text-long : MOST_BYTES < n → WritingCall (writeInto t (length old)) (refused 11) old old
   unfolding writeInto
@@ -223,7 +229,7 @@ module _ (t : Listing) (n : ℕ) (m : Measured (writeHead (writesCodes t) (t .fo
     unfolding writeInto
     text-short over = refused-writes _ old 4 (rw (m .is, ← m .bytes, le-ltb MOST_BYTES n fits, ← m .bytes, lt-ltb (length old) n over))
 
-    pub text-put : n ≤ length old → (new : Text) (k : ℕ) → Put (writeHead (writesCodes t) (t .form) (t .terms) ++ writeRows (rowsOf (columns (writesCodes t) t))) old 0 new k → WritingCall (writeInto t (length old)) (value k) old new
+    pub text-put : n ≤ length old → (new : Text) (k : ℕ) → Put (writeHead (writtenColumns t) (t .form) (t .terms) ++ writeRows (rowsOf (columns (writesCodes t) t))) old 0 new k → WritingCall (writeInto t (length old)) (value k) old new
     unfolding writeInto
     text-put room new k p = put-writes _ old _ new k (rw (m .is, ← m .bytes, le-ltb MOST_BYTES n fits, ← m .bytes, le-ltb (length old) n room)) p
 

@@ -9,7 +9,9 @@ use series::Refusal;
 use series::Terms;
 use text_rules::TermsColumns;
 use text_words::columns::same_numbers;
+use text_words::columns::terms_columns;
 use text_words::letters::letter_of;
+use text_words::names::terms_numbers;
 ghost use Prim.Native.Nat.{_≤_};
 ghost use mathlib.Core.List.{[], _∷_, _++_};
 ghost use lib.ListN.{length};
@@ -27,20 +29,23 @@ pub enum Writing {
 }
 
 // Puts lines 1 to 3 at the start of a head, and hands back their length.
-fn put_head(head: &mut [u8], coded: bool, form: Form, terms: Terms) -> usize
-    requires { ⌜ 65 ≤ length (now head) ⌝ }
-    ensures { λ r. ⌜ Put (writeHead coded form terms) (now (head .entry)) 0 (now (head .exit)) r ⌝ }
+fn put_head(head: &mut [u8], columns: TermsColumns, coded: bool, form: Form, terms: Terms) -> usize
+    requires { ⌜ 86 ≤ length (now head) ⌝ }
+    ensures { λ r. ⌜ Put (writeHead (record { terms = columns; coded = coded }) form terms) (now (head .entry)) 0 (now (head .exit)) r ⌝ }
 {
-    let line2 = names::put_terms_line(head, 0, TermsColumns::MethodExercisedDraw);
+    let line2 = names::put_terms_line(head, 0, columns);
     let method = terms.method;
     head[line2] = letter_of(method);
     head[line2 + 1] = b',';
     let exercised = terms.exercised;
-    let line3 = row::put_row(head, line2 + 2, &[exercised.0, terms.draw], b',', b'\n');
+    let increment = terms.increment;
+    let row = [exercised.0, terms.draw, increment.0];
+    let numbers = terms_numbers(columns);
+    let line3 = row::put_row(head, line2 + 2, &row[..numbers], b',', b'\n');
     names::put_positions_line(head, line3, form, coded)
 }
 
-// Writes the text of a series in a form, without its codes where every code is its account. A refusal writes nothing, and bytes past the text are kept.
+// Writes the text of a series in a form, without its codes where every code is its account, and without its increment where it is the one that is meant where none is given. A refusal writes nothing, and bytes past the text are kept.
 pub fn write(
     form: Form,
     terms: Terms,
@@ -52,8 +57,8 @@ pub fn write(
     ensures { λ r. ⌜ WritingCall (writeInto (record { form = form; terms = terms; codes = now (codes .entry); accounts = now (accounts .entry); numbers = now (numbers .entry) }) (length (now (text .entry)))) (writingOf r) (now (text .entry)) (now (text .exit)) ⌝ }
 {
     let coded = !same_numbers(codes, accounts);
-    let mut lines = [0u8; 65];
-    let n = put_head(&mut lines, coded, form, terms);
+    let mut lines = [0u8; 86];
+    let n = put_head(&mut lines, terms_columns(terms), coded, form, terms);
     let head = &lines[..n];
     let left_out = table::left_out_of(coded);
     match table::measure(head, left_out, accounts, accounts, codes, accounts, numbers) {

@@ -4,6 +4,7 @@ use forms::Form;
 use text_rules::TermsColumns;
 use text_words::names::ACCOUNT_NAME;
 use text_words::names::CODE_NAME;
+use text_words::names::INCREMENT_NAMES;
 use text_words::names::LAST_NAME;
 use text_words::names::SHORT_NAME;
 use text_words::names::TERMS_NAMES;
@@ -19,6 +20,7 @@ pub fn put_terms_line(text: &mut [u8], at: usize, columns: TermsColumns) -> usiz
 {
     match columns {
         TermsColumns::MethodExercisedDraw => put_line(text, at, &TERMS_NAMES),
+        TermsColumns::MethodExercisedDrawIncrement => put_line(text, at, &INCREMENT_NAMES),
     }
 }
 

@@ -5,9 +5,10 @@ use mathlib.Core.Path.{_≡_, refl, sym, ap, _∙_}
 use mathlib.Core.List.{List}
 use lib.ListN.{length}
 use lib.Seq.{length-take-le}
-use Rattle.series.specs.Series.{Series, termsOf}
+use Rattle.series.specs.Series.{Series, DEFAULT_INCREMENT, termsOf}
 use Rattle.series.specs.Refusals.{verdict}
-use Rattle.series.proofs.CallLaws.{call-by-terms, codes-unseen}
+use Rattle.series.proofs.CallLaws.{codes-unseen}
+use Rattle.series.proofs.IncrementLaws.{call-by-terms}
 use Rattle.judging.specs.Judged.{judgedOf}
 use Rattle.judging.proofs.CallLaws.{fits, call-refused}
 use Rattle.starts.specs.Starts.{methodFor}
@@ -18,7 +19,7 @@ use Rattle.allocation.proofs.allocate_started.Tie as tie
 
 -- the series of the call, with these codes
 abbrev called : tie.Start → List ℕ → Series
-called s codes = record { terms = termsOf (methodFor (s .args .by)) (s .args .exercised .0) (s .args .draw); codes = codes; accounts = s .args .accounts .now; shorts = s .args .shorts .now }
+called s codes = record { terms = termsOf (methodFor (s .args .by)) (s .args .exercised .0) (s .args .draw) DEFAULT_INCREMENT; codes = codes; accounts = s .args .accounts .now; shorts = s .args .shorts .now }
 
 -- where the call is judged: its verdict, whatever the codes
 abbrev start : tie.After-judge-uncoded → tie.Start
@@ -65,7 +66,7 @@ answer-for-requires c κs = search needs
 returns : tie.Need-returns
 returns c = let at = c .before .before .before in
     let a = start at .args in
-    λ t codes given. call-by-terms t _ _ _ codes (a .accounts .now) (a .shorts .now) given (call-refused (called (start at) codes) (a .amounts .now) _ (sym (ap judgedOf (c .before .refusal .given .1)) ∙ judged at codes))
+    λ t codes given. call-by-terms t _ _ _ _ codes (a .accounts .now) (a .shorts .now) (started-not-wheel (a .by)) given (call-refused (called (start at) codes) (a .amounts .now) _ (sym (ap judgedOf (c .before .refusal .given .1)) ∙ judged at codes))
 
 same-length : tie.Need-same-length
 same-length c = search needs
@@ -75,7 +76,7 @@ returns-2 c = let told = c .before .before .before .before .before .before in
     let at = told .before .before in
     let a = start at .args in
     let done = c .before .before .before .assign-by-draw in
-    λ t codes given. call-by-terms t _ _ _ codes (a .accounts .now) (a .shorts .now) given
+    λ t codes given. call-by-terms t _ _ _ DEFAULT_INCREMENT codes (a .accounts .now) (a .shorts .now) (started-not-wheel (a .by)) given
     (rw (c .answer-for .ensures) (started-called (a .by) (called (start at) codes) (a .amounts .now) (told .total .given .0 .0 .0) (sym (ap judgedOf (told .total .given .1)) ∙ judged at codes) refl _ _ (done .ensures .0) (done .ensures .1)))
 
 pub allocate-started-spec : {M : Type 1} → statement M

@@ -6,16 +6,16 @@ use lib.Seq.{length-take-le}
 use Rattle.series.specs.Series.{Series, termsOf}
 use Rattle.series.specs.Refusals.{verdict}
 use Rattle.series.specs.declared.Method.{Method}
-use Rattle.series.proofs.CallLaws.{call-by-terms, wheel-judged, wheel-draw}
+use Rattle.series.proofs.CallLaws.{wheel-judged, wheel-draw}
 use Rattle.judging.specs.Judged.{judgedOf}
-use Rattle.judging.proofs.CallLaws.{fits, call-refused, call-requires, call-allocated}
+use Rattle.judging.proofs.CallLaws.{fits, call-refused, call-requires, call-increment, call-allocated}
 use Rattle.allocation.proofs.AllocateLaws.{wheel-gives}
 use Rattle.allocation.proofs.allocate_wheel.Statement.{statement}
 use Rattle.allocation.proofs.allocate_wheel.Tie as tie
 
 -- the series of the call
 abbrev called : tie.Start → Series
-called s = record { terms = termsOf Method.Wheel (s .args .exercised .0) (s .args .draw); codes = s .args .codes .now; accounts = s .args .accounts .now; shorts = s .args .shorts .now }
+called s = record { terms = termsOf Method.Wheel (s .args .exercised .0) (s .args .draw) (s .args .increment .0); codes = s .args .codes .now; accounts = s .args .accounts .now; shorts = s .args .shorts .now }
 
 -- where the call is judged: its verdict
 abbrev start : tie.After-judge → tie.Start
@@ -48,14 +48,16 @@ slice-aggregate-assign c = let at = c .before .before .before .before in
 assign-requires : tie.Need-assign-requires
 assign-requires c κs = let at = c .before .before .before .before in
     let s = called (start at) in
+    let old = start at .args .amounts .now in
     let T = c .before .before .total .given .0 .0 .0 in
-    let call = call-requires s (start at .args .amounts .now) T (sym (ap judgedOf (c .before .before .total .given .1)) ∙ judged at) in
-    (call .0, (search needs, λ part. wheel-draw (s .terms) T refl (wheel-judged (s .terms) T (length (s .shorts)) refl part (call .1))))
+    let v = sym (ap judgedOf (c .before .before .total .given .1)) ∙ judged at in
+    let call = call-requires s old T v in
+    let by = call-increment s old T v refl in
+    (call .0, (record { some = by .some; most = by .most }, λ part. wheel-draw (s .terms) T refl (wheel-judged (s .terms) T (length (s .shorts)) refl part (call .1))))
 
 returns : tie.Need-returns
 returns c = let at = c .before .before .before in
-    let s = called (start at) in
-    λ t given. call-by-terms t _ _ _ (s .codes) (s .accounts) (s .shorts) given (call-refused s (start at .args .amounts .now) _ (sym (ap judgedOf (c .before .refusal .given .1)) ∙ judged at))
+    call-refused (called (start at)) (start at .args .amounts .now) _ (sym (ap judgedOf (c .before .refusal .given .1)) ∙ judged at)
 
 same-length : tie.Need-same-length
 same-length c = search needs
@@ -68,8 +70,7 @@ returns-2 c = let told = c .before .before .before .before .before in
     let T = told .total .given .0 .0 .0 in
     let v = sym (ap judgedOf (told .total .given .1)) ∙ judged at in
     let turned = c .before .before .assign in
-    λ t given. call-by-terms t _ _ _ (s .codes) (s .accounts) (s .shorts) given
-    (call-allocated s old T v _ (turned .last .1 .1 .1 .1 .1 .0) (wheel-gives (s .terms) (s .shorts) _ T (call-requires s old T v .0) refl (turned .result) _ (turned .ensures .0) (turned .ensures .1)))
+    call-allocated s old T v _ (turned .last .1 .1 .1 .1 .1 .0) (wheel-gives (s .terms) (s .shorts) _ T (call-requires s old T v .0) refl (turned .result) _ (turned .ensures .0) (turned .ensures .1))
 
 pub allocate-wheel-spec : {M : Type 1} → statement M
 allocate-wheel-spec =

@@ -35,6 +35,9 @@ array-read-show c = search needs
 array-read-terms-of : tie.Need-array-read-terms-of
 array-read-terms-of c = search needs
 
+array-read-t34 : tie.Need-array-read-t34
+array-read-t34 c = search needs
+
 terms-of-requires : tie.Need-terms-of-requires
 terms-of-requires c κs = search needs
 
@@ -79,6 +82,7 @@ show-lists-spec =
     list-at-requires-4
     array-read-show
     array-read-terms-of
+    array-read-t34
     terms-of-requires
     array-share-prefix-codes
     slice-aggregate-show

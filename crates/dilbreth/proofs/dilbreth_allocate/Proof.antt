@@ -18,7 +18,7 @@ start c = c .before .before .before .before .before .before .before .before .bef
 called : (c : tie.After-numbers-of) (h : Result Handing) → h ≡ numbersMean (c .numbers-of .result)
     → let call = c .before .before .before in
     let a = start call .args in
-    Allocates (listingBy (a .method) (a .form) (a .exercised) (a .draw) (a .codes .now) (a .accounts .now) (a .numbers .now)) (status h) (a .amounts .now) (call .allocate .last .1 .1 .1 .1 .1 .0)
+    Allocates (listingBy (a .method) (a .exercised) (a .draw) (a .increment) (a .form) (a .codes .now) (a .accounts .now) (a .numbers .now)) (status h) (a .amounts .now) (call .allocate .last .1 .1 .1 .1 .1 .0)
     (lent (a .total .now) (after h (λ x. x .total) (a .total .now))) (lent (a .further .now) (after h (λ x. x .further) (a .further .now)))
 called c h e =
     let call = c .before .before .before in
@@ -26,7 +26,7 @@ called c h e =
     let named = form .before .before .before in
     let by = named .before .before in
     let a = start call .args in
-    allocate-known (a .method) (a .form) (a .exercised) (a .draw) (a .codes .now) (a .accounts .now) (a .numbers .now) _ (sym (ap namedMeans (named .named .given .1)) ∙ by .method-by .ensures) _ (form .before .terms-of .ensures) _ (form .form-by .ensures) _ _
+    allocate-known (a .method) (a .exercised) (a .draw) (a .increment) (a .form) (a .codes .now) (a .accounts .now) (a .numbers .now) _ (sym (ap namedMeans (named .named .given .1)) ∙ by .method-by .ensures) _ (form .before .terms-of .ensures) _ (form .form-by .ensures) _ _
     (a .amounts .now) _ (a .total .now) (a .further .now) (e ∙ c .numbers-of .ensures) (call .allocate .ensures)
 
 method-by-requires : tie.Need-method-by-requires
@@ -39,7 +39,7 @@ enum-told : tie.Need-enum-told
 enum-told c = search needs
 
 returns : tie.Need-returns
-returns c = let a = c .before .before .before .before .before .before .before .args in allocate-unknown (a .method) (a .form) (a .exercised) (a .draw) (a .codes .now) (a .accounts .now) (a .numbers .now) (sym (ap namedMeans (c .enum-told .given .1)) ∙ c .before .before .method-by .ensures) (a .amounts .now) (a .total .now) (a .further .now)
+returns c = let a = c .before .before .before .before .before .before .before .args in allocate-unknown (a .method) (a .exercised) (a .draw) (a .increment) (a .form) (a .codes .now) (a .accounts .now) (a .numbers .now) (sym (ap namedMeans (c .enum-told .given .1)) ∙ c .before .before .method-by .ensures) (a .amounts .now) (a .total .now) (a .further .now)
 
 terms-of-requires : tie.Need-terms-of-requires
 terms-of-requires c κs = search needs

@@ -6,6 +6,13 @@ use borrow.Author.Needs.{needs}
 use Rattle.dilbreth.proofs.dilbreth_read.Statement.{statement}
 use Rattle.dilbreth.proofs.dilbreth_read.Tie as tie
 
+-- where the text was read, and the start
+abbrev reading : tie.After-slice-known6 → tie.After-read
+reading c = c .before .before .before .before .before .before
+
+abbrev start : tie.After-read → tie.Start
+start c = c .before .before .before .before .before .before .before .before
+
 read-requires : tie.Need-read-requires
 read-requires c κs = search needs
 
@@ -35,10 +42,10 @@ same-length-3 c = search needs
 
 returns : tie.Need-returns
 returns c = let told = c .before .before .before in
-    let read = told .before .before .before .before .before .before .before .before in
-    let a = read .before .before .before .before .before .before .before .before .args in
+    let read = reading (told .before .before) in
+    let a = start read .args in
     rw (c .before .letter-of .ensures, c .number-of .ensures)
-    (read-hands _ _ _ _ _ (a .method .now) (a .exercised .now) (a .draw .now) (a .form .now) (a .positions .now) (sym (ap readingOf (told .listed .given .1)) ∙ read .read .ensures .answered) (read .read .ensures .written))
+    (read-hands _ _ _ _ _ (a .method .now) (a .exercised .now) (a .draw .now) (a .increment .now) (a .form .now) (a .positions .now) (sym (ap readingOf (told .listed .given .1)) ∙ read .read .ensures .answered) (read .read .ensures .written))
 
 same-length-4 : tie.Need-same-length-4
 same-length-4 c = search needs
@@ -51,10 +58,10 @@ same-length-6 c = search needs
 
 returns-2 : tie.Need-returns-2
 returns-2 c = let told = c .before .before in
-    let read = told .before .before .before .before .before .before .before .before in
-    let a = read .before .before .before .before .before .before .before .before .args in
+    let read = reading (told .before .before) in
+    let a = start read .args in
     rw (c .number .ensures)
-    (read-hands _ _ _ _ _ (a .method .now) (a .exercised .now) (a .draw .now) (a .form .now) (a .positions .now) (sym (ap readingOf (told .refusal .given .1)) ∙ read .read .ensures .answered) (read .read .ensures .written))
+    (read-hands _ _ _ _ _ (a .method .now) (a .exercised .now) (a .draw .now) (a .increment .now) (a .form .now) (a .positions .now) (sym (ap readingOf (told .refusal .given .1)) ∙ read .read .ensures .answered) (read .read .ensures .written))
 
 pub dilbreth-read-spec : {M : Type 1} → statement M
 dilbreth-read-spec =

@@ -16,7 +16,7 @@ enum-told : tie.Need-enum-told
 enum-told c = search needs
 
 returns : tie.Need-returns
-returns c = let a = c .before .before .before .before .before .before .before .args in write-unknown (a .method) (a .form) (a .exercised) (a .draw) (a .codes .now) (a .accounts .now) (a .numbers .now) (sym (ap namedMeans (c .enum-told .given .1)) ∙ c .before .before .method-by .ensures) (a .text .now) (a .written .now)
+returns c = let a = c .before .before .before .before .before .before .before .args in write-unknown (a .method) (a .exercised) (a .draw) (a .increment) (a .form) (a .codes .now) (a .accounts .now) (a .numbers .now) (sym (ap namedMeans (c .enum-told .given .1)) ∙ c .before .before .method-by .ensures) (a .text .now) (a .written .now)
 
 terms-of-requires : tie.Need-terms-of-requires
 terms-of-requires c κs = search needs
@@ -37,7 +37,7 @@ returns-2 : tie.Need-returns-2
 returns-2 c = let t = c .before .before .before .before .before .before .before in
     let m = t .before .before .before .before in
     let a = m .before .before .before .before .before .args in
-    write-known (a .method) (a .form) (a .exercised) (a .draw) (a .codes .now) (a .accounts .now) (a .numbers .now)
+    write-known (a .method) (a .exercised) (a .draw) (a .increment) (a .form) (a .codes .now) (a .accounts .now) (a .numbers .now)
     _ (sym (ap namedMeans (t .before .before .named .given .1)) ∙ m .method-by .ensures) _ (t .terms-of .ensures) _ (c .before .before .before .before .before .before .form-by .ensures)
     _ _ (a .text .now) _ _ (c .before .before .before .before .write .ensures) (c .hand-length .ensures)
 

@@ -133,6 +133,18 @@ slice-aggregate-put-21 c = search needs
 put-requires-21 : tie.Need-put-requires-21
 put-requires-21 c κs = search needs
 
+slice-aggregate-put-22 : tie.Need-slice-aggregate-put-22
+slice-aggregate-put-22 c = search needs
+
+put-requires-22 : tie.Need-put-requires-22
+put-requires-22 c κs = search needs
+
+slice-aggregate-put-23 : tie.Need-slice-aggregate-put-23
+slice-aggregate-put-23 c = search needs
+
+put-requires-23 : tie.Need-put-requires-23
+put-requires-23 c κs = search needs
+
 same-length : tie.Need-same-length
 same-length c = search needs
 
@@ -277,8 +289,22 @@ same-length-21 : tie.Need-same-length-21
 same-length-21 c = search needs
 
 returns-21 : tie.Need-returns-21
+unfolding explanation refusals ascii
+returns-21 c = let a = c .before .before .before .before .before .before .before .args in told (a .number) (a .line .now) (explanation 23) _ _ (ap explanation (c .before .before .before .before .before .match .keys21)) (c .before .before .put21 .ensures .0) (c .before .before .put21 .ensures .1)
+
+same-length-22 : tie.Need-same-length-22
+same-length-22 c = search needs
+
+returns-22 : tie.Need-returns-22
+unfolding explanation refusals ascii
+returns-22 c = let a = c .before .before .before .before .before .before .before .args in told (a .number) (a .line .now) (explanation 24) _ _ (ap explanation (c .before .before .before .before .before .match .keys22)) (c .before .before .put22 .ensures .0) (c .before .before .put22 .ensures .1)
+
+same-length-23 : tie.Need-same-length-23
+same-length-23 c = search needs
+
+returns-23 : tie.Need-returns-23
 unfolding noRefusal ascii
-returns-21 c = let a = c .before .before .before .before .before .before .before .args in told (a .number) (a .line .now) noRefusal _ _ (no-refusal _ (c .before .before .before .before .before .match .rest)) (c .before .before .put21 .ensures .0) (c .before .before .put21 .ensures .1)
+returns-23 c = let a = c .before .before .before .before .before .before .before .args in told (a .number) (a .line .now) noRefusal _ _ (no-refusal _ (c .before .before .before .before .before .match .rest)) (c .before .before .put23 .ensures .0) (c .before .before .put23 .ensures .1)
 
 pub explain-spec : {M : Type 1} → statement M
 explain-spec =
@@ -326,6 +352,10 @@ explain-spec =
     put-requires-20
     slice-aggregate-put-21
     put-requires-21
+    slice-aggregate-put-22
+    put-requires-22
+    slice-aggregate-put-23
+    put-requires-23
     same-length
     returns
     same-length-2
@@ -367,4 +397,8 @@ explain-spec =
     same-length-20
     returns-20
     same-length-21
-    returns-21)
+    returns-21
+    same-length-22
+    returns-22
+    same-length-23
+    returns-23)

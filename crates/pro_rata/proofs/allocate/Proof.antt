@@ -5,10 +5,11 @@ use mathlib.Core.Path.{_≡_, refl, sym, ap, _∙_}
 use mathlib.Core.List.{List}
 use lib.ListN.{length}
 use lib.Seq.{length-take-le}
-use Rattle.series.specs.Series.{Series, termsOf}
+use Rattle.series.specs.Series.{Series, DEFAULT_INCREMENT, termsOf}
 use Rattle.series.specs.Refusals.{verdict}
 use Rattle.series.specs.declared.Method.{Method}
-use Rattle.series.proofs.CallLaws.{call-by-terms, not-wheel, codes-unseen}
+use Rattle.series.proofs.CallLaws.{not-wheel, codes-unseen}
+use Rattle.series.proofs.IncrementLaws.{call-by-terms}
 use Rattle.judging.specs.Judged.{judgedOf}
 use Rattle.judging.proofs.CallLaws.{fits, call-refused, call-requires, call-allocated}
 use Rattle.pro_rata.proofs.AnswerLaws.{pro-rata-gives}
@@ -17,7 +18,7 @@ use Rattle.pro_rata.proofs.allocate.Tie as tie
 
 -- the series of the call, with these codes
 abbrev called : tie.Start → List ℕ → Series
-called s codes = record { terms = termsOf Method.ProRata (s .args .exercised .0) (s .args .draw); codes = codes; accounts = s .args .accounts .now; shorts = s .args .shorts .now }
+called s codes = record { terms = termsOf Method.ProRata (s .args .exercised .0) (s .args .draw) DEFAULT_INCREMENT; codes = codes; accounts = s .args .accounts .now; shorts = s .args .shorts .now }
 
 -- where the call is judged: its verdict, whatever the codes
 abbrev start : tie.After-judge-uncoded → tie.Start
@@ -58,7 +59,7 @@ assign-requires c κs = let at = c .before .before .before .before in
 returns : tie.Need-returns
 returns c = let at = c .before .before .before in
     let a = start at .args in
-    λ t codes given. call-by-terms t _ _ _ codes (a .accounts .now) (a .shorts .now) given (call-refused (called (start at) codes) (a .amounts .now) _ (sym (ap judgedOf (c .before .refusal .given .1)) ∙ judged at codes))
+    λ t codes given. call-by-terms t _ _ _ _ codes (a .accounts .now) (a .shorts .now) (not-wheel Method.ProRata refl) given (call-refused (called (start at) codes) (a .amounts .now) _ (sym (ap judgedOf (c .before .refusal .given .1)) ∙ judged at codes))
 
 same-length : tie.Need-same-length
 same-length c = search needs
@@ -70,7 +71,7 @@ returns-2 c = let told = c .before .before .before .before .before in
     let T = told .total .given .0 .0 .0 in
     let v : (codes : List ℕ) → _ = λ codes. sym (ap judgedOf (told .total .given .1)) ∙ judged at codes in
     let rounds = c .before .before .assign in
-    λ t codes given. call-by-terms t _ _ _ codes (a .accounts .now) (a .shorts .now) given
+    λ t codes given. call-by-terms t _ _ _ _ codes (a .accounts .now) (a .shorts .now) (not-wheel Method.ProRata refl) given
     (call-allocated (called (start at) codes) (a .amounts .now) T (v codes) _ (rounds .last .1 .1 .1 .1 .0) (pro-rata-gives (called (start at) codes .terms) (a .shorts .now) _ T (call-requires (called (start at) codes) (a .amounts .now) T (v codes) .0) refl (rounds .result .0) _ (rounds .ensures .0) (rounds .ensures .1)))
 
 pub allocate-spec : {M : Type 1} → statement M

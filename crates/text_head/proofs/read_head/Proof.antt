@@ -7,7 +7,8 @@ use Rattle.text_words.specs.Parts.{termsNamesMean, TermsNamesRead, positionName
 use Rattle.text_words.specs.declared.names.TermsNames.{TermsNames}
 use Rattle.text_head.specs.Parts.{TermsRead}
 use Rattle.text_head.specs.declared.TermsLine.{TermsLine}
-use Rattle.text_head.proofs.HeadLaws.{few-numbers, onward-within, head-long, head-names, head-terms, head-columns, head-all}
+use Rattle.text_rules.proofs.LengthLaws.{few-numbers}
+use Rattle.text_head.proofs.HeadLaws.{onward-within, head-long, head-names, head-terms, head-columns, head-all}
 use Rattle.text_head.proofs.read_head.Statement.{statement}
 use Rattle.text_head.proofs.read_head.Tie as tie
 

@@ -7,7 +7,7 @@ use mathlib.Core.List.{[], _∷_}
 use lib.ListN.{length, take, drop}
 use lib.Seq.{length-take-le}
 use Rattle.series.specs.Results.{value}
-use Rattle.text_rules.specs.Fields.{COMMA}
+use Rattle.text_rules.specs.Fields.{Text, COMMA}
 use Rattle.text_rules.specs.Rows.{readRow}
 use Rattle.text_fields.specs.Parts.{Onward, foundMeans, rowMeans, rowOnward}
 use Rattle.text_fields.proofs.FieldLaws.{onward-byte, onward-more}
@@ -22,22 +22,24 @@ first : (c : tie.After-known-told) → let a = c .before .before .before .before
 first c = found-at _ _ _ _ _ (c .before .comma .given .1) (c .before .before .before .find-end .ensures)
 
 -- as many numbers are read as are asked for
-asked : (k : ℕ) → k ≤ 2 → length {A = ℕ} (take k (0 ∷ 0 ∷ [])) ≡ k
-asked k few = length-take-le k (0 ∷ 0 ∷ []) few
+asked : (k a b d : ℕ) → k ≤ 3 → length (take k (a ∷ b ∷ d ∷ [])) ≡ k
+asked k a b d few = length-take-le k (a ∷ b ∷ d ∷ []) few
 
 -- the function's entry, from where the numbers are read
 abbrev start : tie.After-read-row → tie.Start
 start c = c .before .before .before .before .before .before .before
 
--- the numbers after it
-numbers : (c : tie.After-read-row) → let a = start c .args in
-    rowMeans (a .text .now) (c .read-row .last .1 .1 .0) (c .read-row .result) ≡ readRow (a .numbers) (drop (c .before .before .before .comma .given .0 .0 + 1) (a .text .now))
-numbers c = rw (asked (start c .args .numbers) (start c .pre)) at (c .read-row .ensures .means)
+-- the text after the first field, and the numbers there
+abbrev rest : tie.After-read-row → Text
+rest c = drop (c .before .before .before .comma .given .0 .0 + 1) (start c .args .text .now)
+
+numbers : (c : tie.After-read-row) → let a = start c .args in rowMeans (a .text .now) (c .read-row .last .1 .1 .0) (c .read-row .result) ≡ readRow (a .numbers) (rest c)
+numbers c = c .read-row .ensures .means ∙ ap (λ k. readRow k (rest c)) (asked (start c .args .numbers) _ _ _ (start c .pre))
 
 -- they are there
 told : (c : tie.After-known-told2) → let read = c .before .before .before .before in
     let a = start read .args in
-    value (record { found = read .read-row .last .1 .1 .0; rest = drop (c .before .next .given .0 .0) (a .text .now) }) ≡ readRow (a .numbers) (drop (read .before .before .before .comma .given .0 .0 + 1) (a .text .now))
+    value (record { found = read .read-row .last .1 .1 .0; rest = drop (c .before .next .given .0 .0) (a .text .now) }) ≡ readRow (a .numbers) (rest read)
 told c = ap (rowMeans _ _) (sym (c .before .next .given .1)) ∙ numbers (c .before .before .before .before)
 
 -- line 2 is passed
@@ -65,7 +67,7 @@ array-borrow-prefix-values : tie.Need-array-borrow-prefix-values
 array-borrow-prefix-values c = search needs
 
 slice-aggregate-read-row : tie.Need-slice-aggregate-read-row
-slice-aggregate-read-row c = let entry = c .before .before .before .before .before .before in sym (asked (entry .args .numbers) (entry .pre))
+slice-aggregate-read-row c = let entry = c .before .before .before .before .before .before in sym (asked (entry .args .numbers) _ _ _ (entry .pre))
 
 read-row-requires : tie.Need-read-row-requires
 read-row-requires c κs = search needs
@@ -104,6 +106,9 @@ array-read-t20 c = search needs
 array-read-terms-of : tie.Need-array-read-terms-of
 array-read-terms-of c = search needs
 
+array-read-t27 : tie.Need-array-read-t27
+array-read-t27 c = search needs
+
 terms-of-requires : tie.Need-terms-of-requires
 terms-of-requires c κs = search needs
 
@@ -114,8 +119,9 @@ returns-4 c = let known = c .before in
     let ns = read .read-row .last .1 .1 .0 in
     let k = start read .args .numbers in
     let method = ap namedMeans (sym (known .before .method .given .1)) ∙ known .before .before .before .read-method .ensures in
-    rw (c .terms-of .ensures, values-read ns k 0, values-read ns k 1)
-    (record { means = terms-all _ _ (first (read .before .before) .reads) method (told row); onward = onward row })
+    let long : length ns ≡ k = read .read-row .kept .1 .1 .0 ∙ asked k _ _ _ (start read .pre) in
+    rw (c .terms-of .ensures)
+    (simp values-read (record { means = terms-all _ _ (first (read .before .before) .reads) method (told row); onward = onward row }))
 
 pub read-terms-spec : {M : Type 1} → statement M
 read-terms-spec =
@@ -139,5 +145,6 @@ read-terms-spec =
     returns-3
     array-read-t20
     array-read-terms-of
+    array-read-t27
     terms-of-requires
     returns-4)

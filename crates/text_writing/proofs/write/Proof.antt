@@ -1,13 +1,14 @@
 -- `write` meets its contract: the codes are compared with the accounts, lines 1 to 3 are put at the start of a head, and the head and the lines are measured and put.
 use Prim.Native.Nat.{_≤_}
-use mathlib.Core.Path.{_≡_, sym, ap, _∙_}
+use mathlib.Core.Path.{_≡_, sym, ap, ap₂, _∙_}
 use mathlib.Core.Bool.{not}
 use native.Mathlib.Omega.{arith}
 use lib.ListN.{length, take}
 use lib.Seq.{length-take-le}
 use borrow.Author.Tests.{not-false}
 use Rattle.forms.specs.Forms.{Listing}
-use Rattle.text_rules.specs.Text.{writeHead, columns, writesCodes}
+use Rattle.text_rules.specs.Text.{writeHead, columns, writesCodes, writtenColumns}
+use Rattle.text_rules.specs.declared.TermsColumns.{TermsColumns}
 use Rattle.text_rules.specs.Calls.{headAndLines, writeInto, lengthOf}
 use Rattle.text_rules.proofs.LengthLaws.{head-room}
 use Rattle.text_rules.proofs.RoundTrip.{same-numbers}
@@ -23,9 +24,12 @@ use Rattle.text_writing.proofs.write.Tie as tie
 abbrev listing : tie.Start → Listing
 listing s = record { form = s .args .form; terms = s .args .terms; codes = s .args .codes .now; accounts = s .args .accounts .now; numbers = s .args .numbers .now }
 
--- the start, from each place that the laws below speak of
+-- where the codes are compared, and the start, from each place that the laws below speak of
+abbrev compared : tie.After-put-head → tie.After-same-numbers
+compared c = c .before .before .before
+
 abbrev at-head : tie.After-put-head → tie.Start
-at-head c = c .before .before .before .before .before .before .before
+at-head c = compared c .before .before .before .before .before
 
 abbrev at-measure : tie.After-measure → tie.Start
 at-measure c = at-head (c .before .before .before .before)
@@ -35,30 +39,32 @@ at-bytes c = at-measure (c .before .before)
 
 -- the head has room for its lines
 within : (c : tie.After-put-head) → c .put-head .result ≤ length (c .put-head .last .0)
-within c = omega (arith, head-room (not (c .before .before .same-numbers .result)) (at-head c .args .form) (at-head c .args .terms), c .put-head .ensures .after, c .put-head .kept .0)
+within c = omega (arith, head-room (record { terms = c .before .terms-columns .result; coded = not (compared c .same-numbers .result) }) (at-head c .args .form) (at-head c .args .terms), c .put-head .ensures .after, c .put-head .kept .0)
 
 -- the head is that of the listing
-head-is : (c : tie.After-put-head) → let t = listing (at-head c) in take (c .put-head .result) (c .put-head .last .0) ≡ writeHead (writesCodes t) (t .form) (t .terms)
-unfolding writesCodes
-head-is c = rw (c .before .before .same-numbers .ensures) at (put-taken _ _ _ _ (c .put-head .ensures))
+head-is : (c : tie.After-put-head) → let t = listing (at-head c) in take (c .put-head .result) (c .put-head .last .0) ≡ writeHead (writtenColumns t) (t .form) (t .terms)
+unfolding writtenColumns writesCodes
+head-is c = let t = listing (at-head c) in
+    put-taken _ _ _ _ (c .put-head .ensures)
+    ∙ ap₂ (λ (k : TermsColumns) same. writeHead (record { terms = k; coded = not same }) (t .form) (t .terms)) (c .before .terms-columns .ensures) (compared c .same-numbers .ensures)
 
 -- the columns are those of the listing
 columns-are : (c : tie.After-left-out-of) → let t = listing (at-head (c .before .before .before)) in written (c .left-out-of .result) (t .accounts) (t .accounts) (t .codes) (t .accounts) (t .numbers) ≡ columns (writesCodes t) t
 unfolding writesCodes
 columns-are c = let t = listing (at-head (c .before .before .before)) in
-    ap (λ k. written k (t .accounts) (t .accounts) (t .codes) (t .accounts) (t .numbers)) (c .left-out-of .ensures ∙ ap (λ same. leftOut (not same)) (c .before .before .before .before .before .same-numbers .ensures))
+    ap (λ k. written k (t .accounts) (t .accounts) (t .codes) (t .accounts) (t .numbers)) (c .left-out-of .ensures ∙ ap (λ same. leftOut (not same)) (compared (c .before .before .before) .same-numbers .ensures))
     ∙ columns-written (writesCodes t) (t .codes) (t .accounts) (t .numbers)
 
 -- codes that are left out are the accounts
 left : (c : tie.After-left-out-of) → let a = at-head (c .before .before .before) .args in Unwritten (c .left-out-of .result) (a .accounts .now) (a .accounts .now) (a .codes .now) (a .accounts .now)
 left c = let a = at-head (c .before .before .before) .args in
-    rw (c .left-out-of .ensures) (series-unwritten (not (c .before .before .before .before .before .same-numbers .result)) (a .codes .now) (a .accounts .now) (λ e. same-numbers _ _ (sym (c .before .before .before .before .before .same-numbers .ensures) ∙ not-false _ e)))
+    rw (c .left-out-of .ensures) (series-unwritten (not (compared (c .before .before .before) .same-numbers .result)) (a .codes .now) (a .accounts .now) (λ e. same-numbers _ _ (sym (compared (c .before .before .before) .same-numbers .ensures) ∙ not-false _ e)))
 
 -- what was measured is the head and the lines of the listing
-measure-is : (c : tie.After-measure) → let t = listing (at-measure c) in writingOf (c .measure .result) ≡ lengthOf (headAndLines (writeHead (writesCodes t) (t .form) (t .terms)) (columns (writesCodes t) t))
+measure-is : (c : tie.After-measure) → let t = listing (at-measure c) in writingOf (c .measure .result) ≡ lengthOf (headAndLines (writeHead (writtenColumns t) (t .form) (t .terms)) (columns (writesCodes t) t))
 measure-is c = rw (head-is (c .before .before .before .before), columns-are (c .before)) at (c .measure .ensures)
 
-bytes-are : (c : tie.After-bytes) → let t = listing (at-bytes c) in Measured (writeHead (writesCodes t) (t .form) (t .terms)) (columns (writesCodes t) t) (c .bytes .given .0 .0)
+bytes-are : (c : tie.After-bytes) → let t = listing (at-bytes c) in Measured (writeHead (writtenColumns t) (t .form) (t .terms)) (columns (writesCodes t) t) (c .bytes .given .0 .0)
 bytes-are c = measured _ _ _ (sym (ap writingOf (c .bytes .given .1)) ∙ measure-is (c .before .before))
 
 same-numbers-requires : tie.Need-same-numbers-requires
@@ -66,6 +72,9 @@ same-numbers-requires c κs = search needs
 
 slice-aggregate-put-head : tie.Need-slice-aggregate-put-head
 slice-aggregate-put-head c = search needs
+
+terms-columns-requires : tie.Need-terms-columns-requires
+terms-columns-requires c κs = search needs
 
 put-head-requires : tie.Need-put-head-requires
 put-head-requires c κs = search needs
@@ -105,7 +114,7 @@ returns-3 : tie.Need-returns-3
 unfolding writeInto
 returns-3 c = let s = at-measure (c .before .before .before) in
     let t = listing s in
-    columns-refused (writeHead (writesCodes t) (t .form) (t .terms)) (columns (writesCodes t) t) _ (s .args .text .now) _ (sym (ap writingOf (c .before .refusal .given .1)) ∙ measure-is (c .before .before .before))
+    columns-refused (writeHead (writtenColumns t) (t .form) (t .terms)) (columns (writesCodes t) t) _ (s .args .text .now) _ (sym (ap writingOf (c .before .refusal .given .1)) ∙ measure-is (c .before .before .before))
 
 same-length : tie.Need-same-length
 same-length c = search needs
@@ -122,6 +131,7 @@ write-spec =
     (tie.spec
     same-numbers-requires
     slice-aggregate-put-head
+    terms-columns-requires
     put-head-requires
     array-share-prefix-lines
     slice-aggregate-head
