@@ -24,6 +24,8 @@
  *   18  more is exercised than the day's limit
  *   19  an account is 0 or stands earlier in the list
  *   20  a last number is 0 or not above the one before
+ *   23  the increment is 0 or above 1,000 (W)
+ *   24  the increment makes more than 1,000,000 blocks
  *
  * On a refusal nothing else is written: every list, every byte of a text and
  * every number behind a pointer is as it was before the call.
@@ -56,7 +58,7 @@ extern "C" {
    call or a constant is new; 1 was the first delivery's. The same number stands in
    dilbreth.pas, rust/dilbreth/src/version.rs, and crates/dilbreth/src/version.rt and
    specs/Version.antt. */
-#define DILBRETH_VERSION 7
+#define DILBRETH_VERSION 8
 
 /* The number that the archive was built with. */
 uint32_t dilbreth_version(void);
@@ -102,15 +104,28 @@ DILBRETH_KEPT static uint32_t (*const dilbreth_linked_version)(void) =
 #define DILBRETH_SHORTS 0
 #define DILBRETH_LAST_NUMBERS 1
 
+/* The increment where none is given. A text without the column has it, and a caller
+   hands it where the house has no other; 0 does not stand for it. */
+#define DILBRETH_DEFAULT_INCREMENT 25
+
 /*
  * Assigns the exercised contracts of one series to its short positions. A list gets the
  * same answer in both forms, but for 6 and 20.
  * Refuses 14 first, for a method that is none of the four, then 1 to 4, then, for
  * each position in turn, 5, 19 (under W only), 6 (in the form of last numbers 20 in its
- * place) and 7, then 8, 9 and, under W and L only, 10.
+ * place) and 7, then 8 and 9, then, under W only, 23, also where S equals T, and 24, where
+ * S is less than T, and then, under W and L only, 10.
  *
  * method        'W' the wheel, 'P' pro rata, 'L' the starting number, 'R' the
  *               remainder draw
+ * exercised     S, the contracts exercised, 1 to T
+ * draw          W: the starting place, 1 to T. L: 1 to 10,000 ten-thousandths.
+ *               P: any number; it decides who is served among equal decimal parts.
+ *               R: any number; the starting place is (draw modulo T) + 1.
+ *               Not looked at, so 0 will do, where S equals T, and where the list has
+ *               one position under L or R
+ * increment     W: the contracts in a block, 1 to 1,000; the blocks, S / increment
+ *               rounded up, are at most 1,000,000. P, L and R: any number
  * form          0 shorts; any other number last numbers
  * codes         the identification code of each position. Under W the list stands in
  *               the order of its codes, 1 or more, rising. Under P, L and R no code is
@@ -124,12 +139,6 @@ DILBRETH_KEPT static uint32_t (*const dilbreth_linked_version)(void) =
  *               last number of each position, 1 or more, rising; the last of them is T.
  *               T is at most 10,000,000
  * numbers_len   the length of numbers, equal to accounts_len
- * exercised     S, the contracts exercised, 1 to T
- * draw          W: the starting place, 1 to T. L: 1 to 10,000 ten-thousandths.
- *               P: any number; it decides who is served among equal decimal parts.
- *               R: any number; the starting place is (draw modulo T) + 1.
- *               Not looked at, so 0 will do, where S equals T, and where the list has
- *               one position under L or R
  * amounts       receives the contracts assigned to each position, in list order;
  *               elements past the list are kept
  * amounts_len   the length of amounts, at least accounts_len
@@ -138,22 +147,28 @@ DILBRETH_KEPT static uint32_t (*const dilbreth_linked_version)(void) =
  *               for P, the contracts of round two; for L and R, the starting place
  *               (0 where S equals T or the list has one position)
  */
-uint32_t dilbreth_allocate(uint8_t method, uint32_t form,
+uint32_t dilbreth_allocate(uint8_t method, uint32_t exercised, uint32_t draw, uint32_t increment,
+                           uint32_t form,
                            const uint32_t *codes, size_t codes_len,
                            const uint32_t *accounts, size_t accounts_len,
                            const uint32_t *numbers, size_t numbers_len,
-                           uint32_t exercised, uint32_t draw,
                            uint32_t *amounts, size_t amounts_len,
                            uint32_t *total, uint32_t *further);
 
 /*
  * Reads the text of a series. Refuses 11 to 15 as the text's lines meet them,
  * and last 4 where codes, accounts or numbers is shorter than the positions of the text.
- * Line 3 ends with `short` or with `last`, which gives the form. A number has one to ten
- * digits, leading zeros allowed; more are 13. The series itself is not judged.
+ * Line 1 may end with a column for the increment, and line 3 ends with `short` or with
+ * `last`, which gives the form. A number has one to ten digits, leading zeros allowed;
+ * more are 13. The series itself is not judged.
  *
  * text          the bytes of the text
  * text_len      its length, at most 32,768
+ * method        receives 'W', 'P', 'L' or 'R'
+ * exercised     receives S
+ * draw          receives the draw
+ * increment     receives the increment, 25 where line 1 has none
+ * form          receives 0 for shorts, 1 for last numbers
  * codes         receives the code of each position, which is its account where line 3
  *               has no code; elements past them are kept
  * codes_len     the length of codes (1,024 is always enough)
@@ -162,29 +177,29 @@ uint32_t dilbreth_allocate(uint8_t method, uint32_t form,
  * numbers       receives the shorts or last number of each position; elements past them
  *               are kept
  * numbers_len   the length of numbers (1,024 is always enough)
- * method        receives 'W', 'P', 'L' or 'R'
- * exercised     receives S
- * draw          receives the draw
- * form          receives 0 for shorts, 1 for last numbers
  * positions     receives the number of positions, 0 for a text without any
  */
 uint32_t dilbreth_read(const uint8_t *text, size_t text_len,
+                       uint8_t *method, uint32_t *exercised, uint32_t *draw, uint32_t *increment,
+                       uint32_t *form,
                        uint32_t *codes, size_t codes_len,
                        uint32_t *accounts, size_t accounts_len,
                        uint32_t *numbers, size_t numbers_len,
-                       uint8_t *method, uint32_t *exercised, uint32_t *draw,
-                       uint32_t *form, size_t *positions);
+                       size_t *positions);
 
 /*
  * Writes the text of a series. Refuses 14 first, for a method that is none of
  * the four, then 1, then 15 for more than 1,024 positions, then 11 for a text of more
  * than 32,768 bytes, then 4 where text is shorter than what there is to write. Codes,
- * accounts, numbers, S and draw are not judged. Codes are written where some code is not
- * its account, else line 3 has no code. No number is written with leading zeros.
+ * accounts, numbers, S, draw and increment are not judged. Codes are written where some
+ * code is not its account, else line 3 has no code; the increment is written where it is
+ * not 25, under every method, else line 1 has none. No number is written with leading
+ * zeros.
  *
  * method        'W', 'P', 'L' or 'R'
  * exercised     S
  * draw          the draw
+ * increment     the increment
  * form          0 shorts; any other number last numbers, and line 3 ends with `last`
  * codes         the code of each position
  * codes_len     the length of codes, equal to accounts_len
@@ -196,7 +211,8 @@ uint32_t dilbreth_read(const uint8_t *text, size_t text_len,
  * text_len      the length of text (32,768 is always enough)
  * written       receives the number of bytes written
  */
-uint32_t dilbreth_write(uint8_t method, uint32_t exercised, uint32_t draw, uint32_t form,
+uint32_t dilbreth_write(uint8_t method, uint32_t exercised, uint32_t draw, uint32_t increment,
+                        uint32_t form,
                         const uint32_t *codes, size_t codes_len,
                         const uint32_t *accounts, size_t accounts_len,
                         const uint32_t *numbers, size_t numbers_len,
@@ -205,17 +221,17 @@ uint32_t dilbreth_write(uint8_t method, uint32_t exercised, uint32_t draw, uint3
 
 /*
  * Changes the text of a series into its text in the other form, with the same method, S,
- * draw, codes and accounts. Refuses 11 to 15 as reading does, then, for the list under the
- * text's method, 3 and, for each position in turn, 5, 19 (under W only), 6 or 20 (by the
- * text's form) and 7, then 4 where output is shorter than the changed text. S and draw are
- * not judged. The changed text is written as dilbreth_write writes it and can be changed
- * back: that gives the same bytes for a text that the library wrote, and the same series
- * for any other.
+ * draw, increment, codes and accounts. Refuses 11 to 15 as reading does, then, for the list
+ * under the text's method, 3 and, for each position in turn, 5, 19 (under W only), 6 or 20
+ * (by the text's form) and 7, then 4 where output is shorter than the changed text. S, draw
+ * and increment are not judged. The changed text is written as dilbreth_write writes it and
+ * can be changed back: that gives the same bytes for a text that the library wrote, and the
+ * same series for any other.
  *
  * text          the bytes of the text, in either form
  * text_len      its length, at most 32,768
  * output        receives the bytes of the changed text; bytes past them are kept
- * output_len    the length of output (31,809 is always enough)
+ * output_len    the length of output (31,830 is always enough)
  * written       receives the number of bytes written
  */
 uint32_t dilbreth_change(const uint8_t *text, size_t text_len,

@@ -13,14 +13,15 @@ unit dilbreth;
 interface
 
 const
-  { dilbreth_version_7 below has the same number, and dilbreth.h says where else it stands. }
-  DILBRETH_VERSION = 7;
+  { dilbreth_version_8 below has the same number, and dilbreth.h says where else it stands. }
+  DILBRETH_VERSION = 8;
   DILBRETH_WHEEL = Ord('W');
   DILBRETH_PRO_RATA = Ord('P');
   DILBRETH_LOTTERY = Ord('L');
   DILBRETH_REMAINDER_DRAW = Ord('R');
   DILBRETH_SHORTS = 0;
   DILBRETH_LAST_NUMBERS = 1;
+  DILBRETH_DEFAULT_INCREMENT = 25;
   DILBRETH_ORDINARY_DAY = 0;
   DILBRETH_FINAL_DAY = 1;
   DILBRETH_LONGEST_EXPLANATION = 50;
@@ -28,22 +29,21 @@ const
 { dilbreth_version of C, a name that the constant has here. }
 function dilbreth_archive_version: LongWord; cdecl; external name 'dilbreth_version';
 
-function dilbreth_allocate(method: Byte; form: LongWord;
+function dilbreth_allocate(method: Byte; exercised, draw, increment: LongWord; form: LongWord;
   const codes: array of LongWord; codes_len: SizeUInt;
   const accounts: array of LongWord; accounts_len: SizeUInt;
   const numbers: array of LongWord; numbers_len: SizeUInt;
-  exercised, draw: LongWord;
   var amounts: array of LongWord; amounts_len: SizeUInt;
   var total, further: LongWord): LongWord; cdecl; external;
 
 function dilbreth_read(text: PByte; text_len: SizeUInt;
+  var method: Byte; var exercised, draw, increment: LongWord; var form: LongWord;
   var codes: array of LongWord; codes_len: SizeUInt;
   var accounts: array of LongWord; accounts_len: SizeUInt;
   var numbers: array of LongWord; numbers_len: SizeUInt;
-  var method: Byte; var exercised, draw: LongWord;
-  var form: LongWord; var positions: SizeUInt): LongWord; cdecl; external;
+  var positions: SizeUInt): LongWord; cdecl; external;
 
-function dilbreth_write(method: Byte; exercised, draw: LongWord; form: LongWord;
+function dilbreth_write(method: Byte; exercised, draw, increment: LongWord; form: LongWord;
   const codes: array of LongWord; codes_len: SizeUInt;
   const accounts: array of LongWord; accounts_len: SizeUInt;
   const numbers: array of LongWord; numbers_len: SizeUInt;
@@ -76,9 +76,9 @@ function dilbreth_explain(number: LongWord;
 implementation
 
 { Only an archive of this number has it: no other one links. }
-function dilbreth_version_7: LongWord; cdecl; external;
+function dilbreth_version_8: LongWord; cdecl; external;
 
 initialization
-  dilbreth_version_7;
+  dilbreth_version_8;
 
 end.

@@ -1,6 +1,6 @@
 /* The archive and its header, from C: case M, starred series in both forms, series that need no draw, leading zeros,
-   codes, the exhibit of the remainder draw, last numbers and the change, the circular's days, a refusal of each call,
-   the words for a refusal. */
+   codes, the exhibit of the remainder draw, last numbers and the change, other increments, the circular's days, a
+   refusal of each call, the words for a refusal. */
 #include <inttypes.h>
 #include <stdio.h>
 #include <string.h>
@@ -25,27 +25,32 @@ struct series {
     const char *name;
     uint8_t method;
     size_t count;
-    uint32_t shorts[5], exercised, draw, amounts[5], total, further;
+    uint32_t shorts[5], exercised, draw, increment, amounts[5], total, further;
 };
 
 static const struct series KNOWN[] = {
-    {"A", DILBRETH_WHEEL, 3, {60, 200, 95}, 175, 1, {35, 97, 43}, 355, 7},
-    {"B", DILBRETH_WHEEL, 3, {60, 200, 95}, 175, 340, {34, 98, 43}, 355, 7},
-    {"C", DILBRETH_WHEEL, 2, {10, 20}, 26, 29, {10, 16}, 30, 2},
-    {"E", DILBRETH_WHEEL, 3, {76, 1, 77}, 150, 1, {75, 0, 75}, 154, 6},
-    {"G", DILBRETH_PRO_RATA, 1, {3}, 1, 0, {1}, 3, 1},
-    {"H", DILBRETH_PRO_RATA, 3, {1, 1, 1}, 1, 5, {0, 0, 1}, 3, 1},
-    {"K", DILBRETH_PRO_RATA, 3, {3, 1, 2}, 2, 0, {1, 0, 1}, 6, 2},
-    {"M", DILBRETH_LOTTERY, 5, {5, 8, 2, 10, 11}, 13, 4855, {0, 0, 0, 8, 5}, 36, 18},
-    {"N", DILBRETH_LOTTERY, 5, {5, 8, 2, 10, 11}, 2, 10000, {1, 0, 0, 0, 1}, 36, 36},
-    {"W, whole, no draw", DILBRETH_WHEEL, 5, {5, 8, 2, 10, 11}, 36, 0, {5, 8, 2, 10, 11}, 36, 0},
-    {"L, whole, no draw", DILBRETH_LOTTERY, 5, {5, 8, 2, 10, 11}, 36, 0, {5, 8, 2, 10, 11}, 36, 0},
-    {"L, one, no draw", DILBRETH_LOTTERY, 1, {36}, 13, 0, {13}, 36, 0},
-    {"R", DILBRETH_REMAINDER_DRAW, 5, {5, 8, 2, 10, 11}, 13, 17, {0, 0, 0, 8, 5}, 36, 18},
-    {"R, draw 0", DILBRETH_REMAINDER_DRAW, 5, {5, 8, 2, 10, 11}, 13, 0, {5, 8, 0, 0, 0}, 36, 1},
-    {"R, the largest draw", DILBRETH_REMAINDER_DRAW, 5, {5, 8, 2, 10, 11}, 3, UINT32_MAX, {2, 1, 0, 0, 0}, 36, 4},
-    {"R, whole", DILBRETH_REMAINDER_DRAW, 5, {5, 8, 2, 10, 11}, 36, 17, {5, 8, 2, 10, 11}, 36, 0},
-    {"R, one", DILBRETH_REMAINDER_DRAW, 1, {36}, 13, 17, {13}, 36, 0},
+    {"A", DILBRETH_WHEEL, 3, {60, 200, 95}, 175, 1, 25, {35, 97, 43}, 355, 7},
+    {"B", DILBRETH_WHEEL, 3, {60, 200, 95}, 175, 340, 25, {34, 98, 43}, 355, 7},
+    {"C", DILBRETH_WHEEL, 2, {10, 20}, 26, 29, 25, {10, 16}, 30, 2},
+    {"E", DILBRETH_WHEEL, 3, {76, 1, 77}, 150, 1, 25, {75, 0, 75}, 154, 6},
+    {"G", DILBRETH_PRO_RATA, 1, {3}, 1, 0, 25, {1}, 3, 1},
+    {"H", DILBRETH_PRO_RATA, 3, {1, 1, 1}, 1, 5, 25, {0, 0, 1}, 3, 1},
+    {"K", DILBRETH_PRO_RATA, 3, {3, 1, 2}, 2, 0, 25, {1, 0, 1}, 6, 2},
+    {"M", DILBRETH_LOTTERY, 5, {5, 8, 2, 10, 11}, 13, 4855, 25, {0, 0, 0, 8, 5}, 36, 18},
+    {"N", DILBRETH_LOTTERY, 5, {5, 8, 2, 10, 11}, 2, 10000, 25, {1, 0, 0, 0, 1}, 36, 36},
+    {"W, whole, no draw", DILBRETH_WHEEL, 5, {5, 8, 2, 10, 11}, 36, 0, 25, {5, 8, 2, 10, 11}, 36, 0},
+    {"L, whole, no draw", DILBRETH_LOTTERY, 5, {5, 8, 2, 10, 11}, 36, 0, 25, {5, 8, 2, 10, 11}, 36, 0},
+    {"L, one, no draw", DILBRETH_LOTTERY, 1, {36}, 13, 0, 25, {13}, 36, 0},
+    {"R", DILBRETH_REMAINDER_DRAW, 5, {5, 8, 2, 10, 11}, 13, 17, 25, {0, 0, 0, 8, 5}, 36, 18},
+    {"R, draw 0", DILBRETH_REMAINDER_DRAW, 5, {5, 8, 2, 10, 11}, 13, 0, 25, {5, 8, 0, 0, 0}, 36, 1},
+    {"R, the largest draw", DILBRETH_REMAINDER_DRAW, 5, {5, 8, 2, 10, 11}, 3, UINT32_MAX, 25, {2, 1, 0, 0, 0}, 36, 4},
+    {"R, whole", DILBRETH_REMAINDER_DRAW, 5, {5, 8, 2, 10, 11}, 36, 17, 25, {5, 8, 2, 10, 11}, 36, 0},
+    {"R, one", DILBRETH_REMAINDER_DRAW, 1, {36}, 13, 17, 25, {13}, 36, 0},
+    {"W by tens", DILBRETH_WHEEL, 3, {60, 200, 95}, 65, 340, 10, {10, 40, 15}, 355, 7},
+    {"W by thousands", DILBRETH_WHEEL, 3, {60, 200, 95}, 175, 300, 1000, {60, 59, 56}, 355, 1},
+    {"W by ones", DILBRETH_WHEEL, 3, {2, 1, 3}, 4, 2, 1, {1, 1, 2}, 6, 4},
+    {"L, increment 0", DILBRETH_LOTTERY, 5, {5, 8, 2, 10, 11}, 13, 4855, 0, {0, 0, 0, 8, 5}, 36, 18},
+    {"R, any increment", DILBRETH_REMAINDER_DRAW, 5, {5, 8, 2, 10, 11}, 13, 17, UINT32_MAX, {0, 0, 0, 8, 5}, 36, 18},
 };
 
 static void known_in(const struct series *s, uint32_t form, const uint32_t *numbers)
@@ -57,8 +62,8 @@ static void known_in(const struct series *s, uint32_t form, const uint32_t *numb
 
     for (i = 0; i < 6; i++)
         amounts[i] = 999;
-    number = dilbreth_allocate(s->method, form, ACCOUNTS, s->count, ACCOUNTS, s->count, numbers, s->count, s->exercised,
-                               s->draw, amounts, 6, &total, &further);
+    number = dilbreth_allocate(s->method, s->exercised, s->draw, s->increment, form, ACCOUNTS, s->count, ACCOUNTS,
+                               s->count, numbers, s->count, amounts, 6, &total, &further);
     holds = number == 0 && total == s->total && further == s->further;
     for (i = 0; i < 6; i++)
         holds = holds && amounts[i] == (i < s->count ? s->amounts[i] : 999);
@@ -83,22 +88,22 @@ static void known(const struct series *s)
 static void case_m(void)
 {
     const size_t length = sizeof M - 1, printed = sizeof M_ASSIGNED - 1;
-    uint32_t codes[6] = {0}, accounts[6] = {0}, shorts[6] = {0}, exercised = 0, draw = 0, form = 9;
+    uint32_t codes[6] = {0}, accounts[6] = {0}, shorts[6] = {0}, exercised = 0, draw = 0, increment = 0, form = 9;
     uint8_t method = 0, text[100], output[100];
     size_t positions = 0, written = 0;
 
     codes[5] = accounts[5] = shorts[5] = 999;
-    see("case M read", dilbreth_read((const uint8_t *)M, length, codes, 6, accounts, 6, shorts, 6, &method,
-                                     &exercised, &draw, &form, &positions) == 0 &&
-                           method == 'L' && exercised == 13 && draw == 4855 && form == DILBRETH_SHORTS &&
-                           positions == 5 &&
+    see("case M read", dilbreth_read((const uint8_t *)M, length, &method, &exercised, &draw, &increment, &form, codes,
+                                     6, accounts, 6, shorts, 6, &positions) == 0 &&
+                           method == 'L' && exercised == 13 && draw == 4855 &&
+                           increment == DILBRETH_DEFAULT_INCREMENT && form == DILBRETH_SHORTS && positions == 5 &&
                            memcmp(codes, ACCOUNTS, sizeof ACCOUNTS) == 0 &&
                            memcmp(accounts, ACCOUNTS, sizeof ACCOUNTS) == 0 && shorts[0] == 5 && shorts[1] == 8 &&
                            shorts[2] == 2 && shorts[3] == 10 && shorts[4] == 11 && codes[5] == 999 &&
                            accounts[5] == 999 && shorts[5] == 999);
     memset(text, 0xEE, sizeof text);
-    see("case M written", dilbreth_write('L', 13, 4855, form, codes, 5, accounts, 5, shorts, 5, text, sizeof text,
-                                         &written) == 0 &&
+    see("case M written", dilbreth_write('L', 13, 4855, DILBRETH_DEFAULT_INCREMENT, form, codes, 5, accounts, 5, shorts,
+                                         5, text, sizeof text, &written) == 0 &&
                               written == length && memcmp(text, M, length) == 0 && text[length] == 0xEE);
     memset(output, 0xEE, sizeof output);
     see("case M responded to",
@@ -112,21 +117,21 @@ static void leading_zeros(void)
     static const char WRITTEN[] = "method,exercised,draw\nP,4,0\naccount,short\n1,5\n12,3\n";
     static const char ELEVEN[] = "method,exercised,draw\nP,4,0\naccount,short\n00000000001,5\n";
     static const char TWICE[] = "method,exercised,draw\nP,4,0\naccount,short\n1,5\n0001,3\n";
-    uint32_t codes[2] = {0}, accounts[2] = {0}, shorts[2] = {0}, exercised = 0, draw = 9, form = 9;
+    uint32_t codes[2] = {0}, accounts[2] = {0}, shorts[2] = {0}, exercised = 0, draw = 9, increment = 0, form = 9;
     uint8_t method = 0, text[100];
     size_t positions = 0, written = 0;
 
-    see("read leading zeros", dilbreth_read((const uint8_t *)SPELLED, sizeof SPELLED - 1, codes, 2, accounts, 2, shorts,
-                                            2, &method, &exercised, &draw, &form, &positions) == 0 &&
+    see("read leading zeros", dilbreth_read((const uint8_t *)SPELLED, sizeof SPELLED - 1, &method, &exercised, &draw,
+                                            &increment, &form, codes, 2, accounts, 2, shorts, 2, &positions) == 0 &&
                                   method == 'P' && exercised == 4 && draw == 0 && positions == 2 &&
                                   accounts[0] == 1 && accounts[1] == 12 && shorts[0] == 5 && shorts[1] == 3);
     see("write no leading zeros",
-        dilbreth_write(method, exercised, draw, form, codes, 2, accounts, 2, shorts, 2, text, sizeof text,
+        dilbreth_write(method, exercised, draw, increment, form, codes, 2, accounts, 2, shorts, 2, text, sizeof text,
                        &written) == 0 &&
             written == sizeof WRITTEN - 1 && memcmp(text, WRITTEN, written) == 0);
     see("read refuses 13 for eleven digits",
-        dilbreth_read((const uint8_t *)ELEVEN, sizeof ELEVEN - 1, codes, 2, accounts, 2, shorts, 2, &method, &exercised,
-                      &draw, &form, &positions) == 13);
+        dilbreth_read((const uint8_t *)ELEVEN, sizeof ELEVEN - 1, &method, &exercised, &draw, &increment, &form, codes,
+                      2, accounts, 2, shorts, 2, &positions) == 13);
     see("respond with 5 to an account in two spellings",
         dilbreth_respond((const uint8_t *)TWICE, sizeof TWICE - 1, text, sizeof text, &written) == 0 &&
             written == 10 && memcmp(text, "refused\n5\n", 10) == 0);
@@ -138,36 +143,41 @@ static void by_codes(void)
         "method,exercised,draw\nW,175,1\ncode,account,short\n10,500,60\n20,700,200\n30,100,95\n";
     static const char ASSIGNED[] = "account,assigned\n500,35\n700,97\n100,43\n";
     uint32_t codes[3] = {0}, accounts[3] = {0}, shorts[3] = {0}, amounts[3] = {9, 9, 9};
-    uint32_t exercised = 0, draw = 0, form = 9, total = 0, further = 0;
+    uint32_t exercised = 0, draw = 0, increment = 0, form = 9, total = 0, further = 0;
     uint8_t method = 0, text[100];
     size_t positions = 0, written = 0;
 
-    see("read codes", dilbreth_read((const uint8_t *)CODED, sizeof CODED - 1, codes, 3, accounts, 3, shorts, 3, &method,
-                                    &exercised, &draw, &form, &positions) == 0 &&
+    see("read codes", dilbreth_read((const uint8_t *)CODED, sizeof CODED - 1, &method, &exercised, &draw, &increment,
+                                    &form, codes, 3, accounts, 3, shorts, 3, &positions) == 0 &&
                           method == 'W' && positions == 3 && codes[0] == 10 && codes[1] == 20 && codes[2] == 30 &&
                           accounts[0] == 500 && accounts[1] == 700 && accounts[2] == 100 && shorts[2] == 95);
-    see("allocate by codes", dilbreth_allocate(method, form, codes, 3, accounts, 3, shorts, 3, exercised, draw, amounts,
-                                               3, &total, &further) == 0 &&
+    see("allocate by codes", dilbreth_allocate(method, exercised, draw, increment, form, codes, 3, accounts, 3, shorts,
+                                               3, amounts, 3, &total, &further) == 0 &&
                                  total == 355 && further == 7 && amounts[0] == 35 && amounts[1] == 97 &&
                                  amounts[2] == 43);
-    see("write codes", dilbreth_write(method, exercised, draw, form, codes, 3, accounts, 3, shorts, 3, text,
+    see("write codes", dilbreth_write(method, exercised, draw, increment, form, codes, 3, accounts, 3, shorts, 3, text,
                                       sizeof text, &written) == 0 &&
                            written == sizeof CODED - 1 && memcmp(text, CODED, written) == 0);
     see("respond in code order",
         dilbreth_respond((const uint8_t *)CODED, sizeof CODED - 1, text, sizeof text, &written) == 0 &&
             written == sizeof ASSIGNED - 1 && memcmp(text, ASSIGNED, written) == 0);
     see("allocate refuses 1 for codes of another length under W",
-        dilbreth_allocate('W', form, codes, 2, accounts, 3, shorts, 3, 1, 1, amounts, 3, &total, &further) == 1);
+        dilbreth_allocate('W', 1, 1, DILBRETH_DEFAULT_INCREMENT, form, codes, 2, accounts, 3, shorts, 3, amounts, 3,
+                          &total, &further) == 1);
     see("allocate refuses 5 for accounts that fall under L, with no code",
-        dilbreth_allocate('L', form, codes, 0, accounts, 3, shorts, 3, 1, 1, amounts, 3, &total, &further) == 5);
+        dilbreth_allocate('L', 1, 1, DILBRETH_DEFAULT_INCREMENT, form, codes, 0, accounts, 3, shorts, 3, amounts, 3,
+                          &total, &further) == 5);
     accounts[2] = 500;
     see("allocate refuses 19",
-        dilbreth_allocate('W', form, codes, 3, accounts, 3, shorts, 3, 1, 1, amounts, 3, &total, &further) == 19);
+        dilbreth_allocate('W', 1, 1, DILBRETH_DEFAULT_INCREMENT, form, codes, 3, accounts, 3, shorts, 3, amounts, 3,
+                          &total, &further) == 19);
     codes[2] = 20;
     see("allocate refuses 5 before 19",
-        dilbreth_allocate('W', form, codes, 3, accounts, 3, shorts, 3, 1, 1, amounts, 3, &total, &further) == 5);
+        dilbreth_allocate('W', 1, 1, DILBRETH_DEFAULT_INCREMENT, form, codes, 3, accounts, 3, shorts, 3, amounts, 3,
+                          &total, &further) == 5);
     see("write refuses 1 for codes of another length",
-        dilbreth_write('L', 1, 1, form, codes, 2, accounts, 3, shorts, 3, text, sizeof text, &written) == 1);
+        dilbreth_write('L', 1, 1, DILBRETH_DEFAULT_INCREMENT, form, codes, 2, accounts, 3, shorts, 3, text, sizeof text,
+                       &written) == 1);
 }
 
 static void exhibit(void)
@@ -180,19 +190,19 @@ static void exhibit(void)
                                   "6,155,155,1341,1341\n7,156,1155,1342,2341\n8,1156,1156,2342,2342\n"
                                   "9,1157,1166,2343,2352\n10,1167,1186,2353,2372\n";
     const size_t printed = sizeof PRINTED - 1;
-    uint32_t codes[10], accounts[10], shorts[10], amounts[10], exercised = 0, draw = 0, form = 9;
+    uint32_t codes[10], accounts[10], shorts[10], amounts[10], exercised = 0, draw = 0, increment = 0, form = 9;
     uint32_t total = 0, further = 0;
     uint8_t method = 0, output[400], before[400];
     size_t positions = 0, written = 9;
 
     memset(output, 0xEE, sizeof output);
     memset(before, 0xEE, sizeof before);
-    see("exhibit read", dilbreth_read((const uint8_t *)TEXT, sizeof TEXT - 1, codes, 10, accounts, 10, shorts, 10,
-                                      &method, &exercised, &draw, &form, &positions) == 0 &&
+    see("exhibit read", dilbreth_read((const uint8_t *)TEXT, sizeof TEXT - 1, &method, &exercised, &draw, &increment,
+                                      &form, codes, 10, accounts, 10, shorts, 10, &positions) == 0 &&
                             method == DILBRETH_REMAINDER_DRAW && exercised == 50 && draw == 395 && positions == 10);
     see("exhibit allocated without a code",
-        dilbreth_allocate(method, form, codes, 0, accounts, 10, shorts, 10, exercised, draw, amounts, 10, &total,
-                          &further) == 0 &&
+        dilbreth_allocate(method, exercised, draw, increment, form, codes, 0, accounts, 10, shorts, 10, amounts, 10,
+                          &total, &further) == 0 &&
             total == 1186 && further == 396 && amounts[0] == 0 && amounts[6] == 50 && amounts[9] == 0);
     see("exhibit responded to by 4 where the output is a byte too short",
         dilbreth_respond((const uint8_t *)TEXT, sizeof TEXT - 1, output, printed - 1, &written) == 4 && written == 9 &&
@@ -212,12 +222,19 @@ static const struct changed CHANGES[] = {
     {"with codes", "W,175,1\ncode,account,short\n10,500,60\n20,700,200\n30,100,95\n",
      "W,175,1\ncode,account,last\n10,500,60\n20,700,260\n30,100,355\n"},
     {"any S and draw", "W,0,4294967295\naccount,short\n7,10000000\n", "W,0,4294967295\naccount,last\n7,10000000\n"},
+    {"by tens", "W,65,340,10\naccount,short\n1,60\n2,200\n3,95\n", "W,65,340,10\naccount,last\n1,60\n2,260\n3,355\n"},
+    {"any increment", "W,1,1,0\naccount,last\n7,9\n", "W,1,1,0\naccount,short\n7,9\n"},
 };
 
-/* A text from line 2 on as a whole text; answers its length. */
+/* A text from line 2 on as a whole text, with the increment in line 1 where line 2 has four fields; answers its
+   length. */
 static size_t whole(char *text, const char *rest)
 {
-    return (size_t)sprintf(text, "method,exercised,draw\n%s", rest);
+    size_t commas = 0, i;
+
+    for (i = 0; rest[i] != '\n'; i++)
+        commas += rest[i] == ',';
+    return (size_t)sprintf(text, "method,exercised,draw%s\n%s", commas == 3 ? ",increment" : "", rest);
 }
 
 static void changes(const struct changed *c)
@@ -248,34 +265,80 @@ static void changes(const struct changed *c)
 static void last_numbers(void)
 {
     uint32_t codes[5] = {0}, accounts[5] = {0}, lasts[5] = {0}, amounts[5] = {9, 9, 9, 9, 9};
-    uint32_t exercised = 0, draw = 0, form = 9, total = 77, further = 78;
+    uint32_t exercised = 0, draw = 0, increment = 0, form = 9, total = 77, further = 78;
     uint8_t method = 0, text[100], output[100];
     size_t length = whole((char *)text, CHANGES[0].from), positions = 0, written = 9, i;
 
-    see("read last numbers", dilbreth_read(text, length, codes, 5, accounts, 5, lasts, 5, &method, &exercised, &draw,
-                                           &form, &positions) == 0 &&
+    see("read last numbers", dilbreth_read(text, length, &method, &exercised, &draw, &increment, &form, codes, 5,
+                                           accounts, 5, lasts, 5, &positions) == 0 &&
                                  form == DILBRETH_LAST_NUMBERS && method == 'L' && exercised == 13 && draw == 4855 &&
                                  positions == 5 && codes[4] == 5 && accounts[4] == 5 && lasts[0] == 5 &&
                                  lasts[1] == 13 && lasts[4] == 36);
-    see("write last numbers", dilbreth_write(method, exercised, draw, form, codes, 5, accounts, 5, lasts, 5, output,
-                                             sizeof output, &written) == 0 &&
+    see("write last numbers", dilbreth_write(method, exercised, draw, increment, form, codes, 5, accounts, 5, lasts, 5,
+                                             output, sizeof output, &written) == 0 &&
                                   written == length && memcmp(output, text, length) == 0);
     see("respond to last numbers", dilbreth_respond(text, length, output, sizeof output, &written) == 0 &&
                                        written == sizeof M_ASSIGNED - 1 && memcmp(output, M_ASSIGNED, written) == 0);
     lasts[2] = 13;
-    see("allocate refuses 20", dilbreth_allocate('P', form, codes, 0, accounts, 5, lasts, 5, 1, 1, amounts, 5, &total,
-                                                 &further) == 20 &&
+    see("allocate refuses 20", dilbreth_allocate('P', 1, 1, DILBRETH_DEFAULT_INCREMENT, form, codes, 0, accounts, 5,
+                                                 lasts, 5, amounts, 5, &total, &further) == 20 &&
                                    total == 77 && further == 78 && amounts[0] == 9);
     lasts[0] = 0;
     see("allocate refuses 6 in the form of shorts",
-        dilbreth_allocate('P', DILBRETH_SHORTS, codes, 0, accounts, 5, lasts, 5, 1, 1, amounts, 5, &total,
-                          &further) == 6);
-    see("write judges no last number", dilbreth_write('P', 1, 1, form, codes, 5, accounts, 5, lasts, 5, text,
-                                                      sizeof text, &written) == 0);
+        dilbreth_allocate('P', 1, 1, DILBRETH_DEFAULT_INCREMENT, DILBRETH_SHORTS, codes, 0, accounts, 5, lasts, 5,
+                          amounts, 5, &total, &further) == 6);
+    see("write judges no last number", dilbreth_write('P', 1, 1, DILBRETH_DEFAULT_INCREMENT, form, codes, 5, accounts,
+                                                      5, lasts, 5, text, sizeof text, &written) == 0);
     see("change refuses 20", dilbreth_change(text, written, output, sizeof output, &written) == 20);
     see("change refuses 12", dilbreth_change(text, 0, output, sizeof output, &written) == 12);
     for (i = 0; i < sizeof CHANGES / sizeof CHANGES[0]; i++)
         changes(&CHANGES[i]);
+}
+
+/* No two numbers of line 2 are equal, so each must reach its place. */
+static void increments(void)
+{
+    static const char BY_TENS[] = "method,exercised,draw,increment\nW,65,340,10\naccount,short\n1,60\n2,200\n3,95\n";
+    static const char BY_25[] = "method,exercised,draw\nW,65,340\naccount,short\n1,60\n2,200\n3,95\n";
+    static const char ASSIGNED[] = "account,assigned\n1,10\n2,40\n3,15\n";
+    const size_t length = sizeof BY_TENS - 1;
+    uint32_t codes[3] = {0}, accounts[3] = {0}, shorts[3] = {0}, amounts[3] = {9, 9, 9};
+    uint32_t exercised = 0, draw = 0, increment = 0, form = 9, total = 0, further = 0;
+    uint8_t method = 0, text[100];
+    size_t positions = 0, written = 0;
+
+    see("read an increment", dilbreth_read((const uint8_t *)BY_TENS, length, &method, &exercised, &draw, &increment,
+                                           &form, codes, 3, accounts, 3, shorts, 3, &positions) == 0 &&
+                                 method == 'W' && exercised == 65 && draw == 340 && increment == 10 &&
+                                 form == DILBRETH_SHORTS && positions == 3 && shorts[2] == 95);
+    see("allocate by tens", dilbreth_allocate(method, exercised, draw, increment, form, codes, 3, accounts, 3, shorts,
+                                              3, amounts, 3, &total, &further) == 0 &&
+                                total == 355 && further == 7 && amounts[0] == 10 && amounts[1] == 40 &&
+                                amounts[2] == 15);
+    see("write an increment", dilbreth_write(method, exercised, draw, increment, form, codes, 3, accounts, 3, shorts, 3,
+                                             text, sizeof text, &written) == 0 &&
+                                  written == length && memcmp(text, BY_TENS, length) == 0);
+    see("write no increment of 25", dilbreth_write(method, exercised, draw, DILBRETH_DEFAULT_INCREMENT, form, codes, 3,
+                                                   accounts, 3, shorts, 3, text, sizeof text, &written) == 0 &&
+                                        written == sizeof BY_25 - 1 && memcmp(text, BY_25, written) == 0);
+    see("respond by tens",
+        dilbreth_respond((const uint8_t *)BY_TENS, length, text, sizeof text, &written) == 0 &&
+            written == sizeof ASSIGNED - 1 && memcmp(text, ASSIGNED, written) == 0);
+    see("allocate refuses 23 for 0, also where S equals T",
+        dilbreth_allocate('W', 355, 0, 0, form, codes, 3, accounts, 3, shorts, 3, amounts, 3, &total, &further) == 23);
+    see("allocate refuses 23 for 1,001, before 10",
+        dilbreth_allocate('W', 65, 0, 1001, form, codes, 3, accounts, 3, shorts, 3, amounts, 3, &total,
+                          &further) == 23);
+    see("allocate refuses 9 before 23",
+        dilbreth_allocate('W', 356, 0, 0, form, codes, 3, accounts, 3, shorts, 3, amounts, 3, &total, &further) == 9);
+    shorts[1] = 1000000;
+    see("allocate refuses 24, before 10",
+        dilbreth_allocate('W', 1000001, 0, 1, form, codes, 3, accounts, 3, shorts, 3, amounts, 3, &total,
+                          &further) == 24);
+    see("allocate 1,000,000 blocks",
+        dilbreth_allocate('W', 1000000, 340, 1, form, codes, 3, accounts, 3, shorts, 3, amounts, 3, &total,
+                          &further) == 0 &&
+            total == 1000155 && further == 1000000);
 }
 
 static void refusals(void)
@@ -283,7 +346,7 @@ static void refusals(void)
     static const uint32_t shorts[5] = {5, 8, 2, 10, 11};
     const size_t length = sizeof M - 1;
     uint32_t codes[5] = {9, 9, 9, 9, 9}, amounts[5] = {9, 9, 9, 9, 9}, other[5] = {9, 9, 9, 9, 9};
-    uint32_t total = 77, further = 78, exercised = 79, draw = 80, form = 84;
+    uint32_t total = 77, further = 78, exercised = 79, draw = 80, form = 84, increment = 85;
     uint8_t method = 81, bytes[100], before[100];
     size_t positions = 82, written = 83;
     int kept;
@@ -291,40 +354,42 @@ static void refusals(void)
     memset(bytes, 0xEE, sizeof bytes);
     memset(before, 0xEE, sizeof before);
     see("allocate refuses 14",
-        dilbreth_allocate('X', DILBRETH_SHORTS, ACCOUNTS, 5, ACCOUNTS, 5, shorts, 4, 0, 0, amounts, 0, &total,
-                          &further) == 14);
+        dilbreth_allocate('X', 0, 0, DILBRETH_DEFAULT_INCREMENT, DILBRETH_SHORTS, ACCOUNTS, 5, ACCOUNTS, 5, shorts, 4,
+                          amounts, 0, &total, &further) == 14);
     see("allocate refuses 1",
-        dilbreth_allocate('W', DILBRETH_SHORTS, ACCOUNTS, 5, ACCOUNTS, 5, shorts, 4, 0, 0, amounts, 5, &total,
-                          &further) == 1);
+        dilbreth_allocate('W', 0, 0, DILBRETH_DEFAULT_INCREMENT, DILBRETH_SHORTS, ACCOUNTS, 5, ACCOUNTS, 5, shorts, 4,
+                          amounts, 5, &total, &further) == 1);
     see("allocate refuses 4",
-        dilbreth_allocate('W', DILBRETH_SHORTS, ACCOUNTS, 5, ACCOUNTS, 5, shorts, 5, 0, 0, amounts, 4, &total,
-                          &further) == 4);
+        dilbreth_allocate('W', 0, 0, DILBRETH_DEFAULT_INCREMENT, DILBRETH_SHORTS, ACCOUNTS, 5, ACCOUNTS, 5, shorts, 5,
+                          amounts, 4, &total, &further) == 4);
     see("allocate refuses 9",
-        dilbreth_allocate('P', DILBRETH_SHORTS, ACCOUNTS, 5, ACCOUNTS, 5, shorts, 5, 37, 0, amounts, 5, &total,
-                          &further) == 9);
+        dilbreth_allocate('P', 37, 0, DILBRETH_DEFAULT_INCREMENT, DILBRETH_SHORTS, ACCOUNTS, 5, ACCOUNTS, 5, shorts, 5,
+                          amounts, 5, &total, &further) == 9);
     see("allocate refuses 10",
-        dilbreth_allocate('W', DILBRETH_SHORTS, ACCOUNTS, 5, ACCOUNTS, 5, shorts, 5, 35, 37, amounts, 5, &total,
-                          &further) == 10);
+        dilbreth_allocate('W', 35, 37, DILBRETH_DEFAULT_INCREMENT, DILBRETH_SHORTS, ACCOUNTS, 5, ACCOUNTS, 5, shorts, 5,
+                          amounts, 5, &total, &further) == 10);
     see("allocate refuses 10 for one position of W",
-        dilbreth_allocate('W', DILBRETH_SHORTS, ACCOUNTS, 1, ACCOUNTS, 1, shorts, 1, 4, 0, amounts, 5, &total,
-                          &further) == 10);
-    see("read refuses 13", dilbreth_read((const uint8_t *)M, length - 1, codes, 5, amounts, 5, other, 5, &method,
-                                         &exercised, &draw, &form, &positions) == 13);
-    see("read refuses 4", dilbreth_read((const uint8_t *)M, length, codes, 5, amounts, 5, other, 4, &method, &exercised,
-                                        &draw, &form, &positions) == 4);
-    see("read refuses 4 for codes", dilbreth_read((const uint8_t *)M, length, codes, 4, amounts, 5, other, 5, &method,
-                                                  &exercised, &draw, &form, &positions) == 4);
+        dilbreth_allocate('W', 4, 0, DILBRETH_DEFAULT_INCREMENT, DILBRETH_SHORTS, ACCOUNTS, 1, ACCOUNTS, 1, shorts, 1,
+                          amounts, 5, &total, &further) == 10);
+    see("read refuses 13", dilbreth_read((const uint8_t *)M, length - 1, &method, &exercised, &draw, &increment, &form,
+                                         codes, 5, amounts, 5, other, 5, &positions) == 13);
+    see("read refuses 4", dilbreth_read((const uint8_t *)M, length, &method, &exercised, &draw, &increment, &form,
+                                        codes, 5, amounts, 5, other, 4, &positions) == 4);
+    see("read refuses 4 for codes", dilbreth_read((const uint8_t *)M, length, &method, &exercised, &draw, &increment,
+                                                  &form, codes, 4, amounts, 5, other, 5, &positions) == 4);
     see("write refuses 14",
-        dilbreth_write('l', 13, 4855, DILBRETH_SHORTS, ACCOUNTS, 5, ACCOUNTS, 5, shorts, 4, bytes, 0, &written) == 14);
-    see("write refuses 4", dilbreth_write('L', 13, 4855, DILBRETH_SHORTS, ACCOUNTS, 5, ACCOUNTS, 5, shorts, 5, bytes,
-                                          length - 1, &written) == 4);
-    see("write refuses 4 for last numbers", dilbreth_write('L', 13, 4855, DILBRETH_LAST_NUMBERS, ACCOUNTS, 5, ACCOUNTS,
-                                                           5, shorts, 5, bytes, length - 2, &written) == 4);
+        dilbreth_write('l', 13, 4855, DILBRETH_DEFAULT_INCREMENT, DILBRETH_SHORTS, ACCOUNTS, 5, ACCOUNTS, 5, shorts, 4,
+                       bytes, 0, &written) == 14);
+    see("write refuses 4", dilbreth_write('L', 13, 4855, DILBRETH_DEFAULT_INCREMENT, DILBRETH_SHORTS, ACCOUNTS, 5,
+                                          ACCOUNTS, 5, shorts, 5, bytes, length - 1, &written) == 4);
+    see("write refuses 4 for last numbers", dilbreth_write('L', 13, 4855, DILBRETH_DEFAULT_INCREMENT,
+                                                           DILBRETH_LAST_NUMBERS, ACCOUNTS, 5, ACCOUNTS, 5, shorts, 5,
+                                                           bytes, length - 2, &written) == 4);
     see("respond refuses 4",
         dilbreth_respond((const uint8_t *)M, length, bytes, sizeof M_ASSIGNED - 2, &written) == 4);
     kept = amounts[0] == 9 && memcmp(amounts, other, sizeof amounts) == 0 &&
            memcmp(amounts, codes, sizeof amounts) == 0 && total == 77 && further == 78 && exercised == 79 &&
-           draw == 80 && method == 81 && positions == 82 && written == 83 && form == 84 &&
+           draw == 80 && method == 81 && positions == 82 && written == 83 && form == 84 && increment == 85 &&
            memcmp(bytes, before, sizeof bytes) == 0;
     see("refusals keep every output", kept);
     see("respond writes a refusal of the text", dilbreth_respond(bytes, 0, bytes + 1, 11, &written) == 0 &&
@@ -389,6 +454,8 @@ static void words(void)
     static const char NINE[] = "more is exercised than the positions hold\n", NONE[] = "no refusal has this number\n";
     static const char FOURTEEN[] = "the method is not W, P, L or R\n";
     static const char TWENTY[] = "a last number is 0 or not above the one before\n";
+    static const char TWENTY_THREE[] = "the increment is 0 or above 1,000 (W)\n";
+    static const char TWENTY_FOUR[] = "the increment makes more than 1,000,000 blocks\n";
     const size_t length = sizeof NINE - 1;
     uint8_t line[DILBRETH_LONGEST_EXPLANATION + 1], before[sizeof line];
 
@@ -404,6 +471,12 @@ static void words(void)
                                 memcmp(line, FOURTEEN, sizeof FOURTEEN - 1) == 0);
     see("the words for 20", dilbreth_explain(20, line, sizeof line) == sizeof TWENTY - 1 &&
                                 memcmp(line, TWENTY, sizeof TWENTY - 1) == 0);
+    see("no words for 21", dilbreth_explain(21, line, sizeof line) == sizeof NONE - 1 &&
+                               memcmp(line, NONE, sizeof NONE - 1) == 0);
+    see("the words for 23", dilbreth_explain(23, line, sizeof line) == sizeof TWENTY_THREE - 1 &&
+                                memcmp(line, TWENTY_THREE, sizeof TWENTY_THREE - 1) == 0);
+    see("the words for 24", dilbreth_explain(24, line, sizeof line) == sizeof TWENTY_FOUR - 1 &&
+                                memcmp(line, TWENTY_FOUR, sizeof TWENTY_FOUR - 1) == 0);
     see("the longest line", dilbreth_explain(10, line, sizeof line) == DILBRETH_LONGEST_EXPLANATION);
 }
 
@@ -419,6 +492,7 @@ int main(void)
     by_codes();
     exhibit();
     last_numbers();
+    increments();
     refusals();
     for (i = 0; i < sizeof INVESTORS / sizeof INVESTORS[0]; i++)
         investor(&INVESTORS[i]);

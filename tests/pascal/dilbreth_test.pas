@@ -1,5 +1,5 @@
 { The unit and the archive, from Pascal: case M through each call, series that need no draw, leading zeros, codes, the
-  remainder draw, last numbers and the change, the circular's days, refusals. }
+  remainder draw, last numbers and the change, other increments, the circular's days, refusals. }
 program dilbreth_test;
 
 {$mode objfpc}
@@ -21,6 +21,10 @@ const
   M_DRAWN = 'method,exercised,draw'#10'R,13,53'#10'account,short'#10'1,5'#10'2,8'#10'3,2'#10'4,10'#10'5,11'#10;
   M_RANGES = 'account,first,last,first2,last2'#10'1,1,5,37,41'#10'2,6,13,42,49'#10'3,14,15,50,51'#10
     + '4,16,25,52,61'#10'5,26,36,62,72'#10;
+  TENS = 'method,exercised,draw,increment'#10'W,65,340,10'#10'account,short'#10'1,60'#10'2,200'#10'3,95'#10;
+  TENS_LASTS = 'method,exercised,draw,increment'#10'W,65,340,10'#10'account,last'#10'1,60'#10'2,260'#10'3,355'#10;
+  TENS_ASSIGNED = 'account,assigned'#10'1,10'#10'2,40'#10'3,15'#10;
+  AMOUNTS_OF_TENS: array[0..5] of LongWord = (10, 40, 15, 999, 999, 999);
   AMOUNTS_OF_A: array[0..5] of LongWord = (35, 97, 43, 999, 999, 999);
   AMOUNTS_OF_M: array[0..5] of LongWord = (0, 0, 0, 8, 5, 999);
 
@@ -29,7 +33,7 @@ var
   series, bytes: string;
   codes, accounts, numbers, amounts: array[0..5] of LongWord;
   method: Byte;
-  exercised, draw, form, total, further: LongWord;
+  exercised, draw, increment, form, total, further: LongWord;
   positions, written: SizeUInt;
   limit, long_after, short_after: LongWord;
 
@@ -56,8 +60,8 @@ begin
   FillDWord(codes, 6, 999);
   FillDWord(accounts, 6, 999);
   FillDWord(numbers, 6, 999);
-  ReadText := dilbreth_read(PByte(text), Length(text), codes, 6, accounts, 6, numbers, 6,
-    method, exercised, draw, form, positions);
+  ReadText := dilbreth_read(PByte(text), Length(text), method, exercised, draw, increment, form, codes, 6, accounts,
+    6, numbers, 6, positions);
 end;
 
 { Changes a text, with an output of the length; answers 0 or the number of the refusal. }
@@ -74,8 +78,8 @@ begin
   FillDWord(amounts, 6, 999);
   total := 999;
   further := 999;
-  Undrawn := dilbreth_allocate(by, DILBRETH_SHORTS, codes, count, accounts, count, numbers, count, s, 0,
-    amounts, 6, total, further);
+  Undrawn := dilbreth_allocate(by, s, 0, DILBRETH_DEFAULT_INCREMENT, DILBRETH_SHORTS, codes, count, accounts, count,
+    numbers, count, amounts, 6, total, further);
 end;
 
 { An investor's day; answers 0 or the number of the refusal. }
@@ -108,20 +112,21 @@ begin
   FillDWord(amounts, 6, 999);
   See('the version', dilbreth_archive_version = DILBRETH_VERSION);
   See('read', (ReadText(series) = 0)
-    and (method = DILBRETH_LOTTERY) and (exercised = 13) and (draw = 4855) and (form = DILBRETH_SHORTS)
-    and (positions = 5) and (codes[4] = 5) and (accounts[4] = 5) and (numbers[4] = 11)
+    and (method = DILBRETH_LOTTERY) and (exercised = 13) and (draw = 4855)
+    and (increment = DILBRETH_DEFAULT_INCREMENT) and (form = DILBRETH_SHORTS) and (positions = 5)
+    and (codes[4] = 5) and (accounts[4] = 5) and (numbers[4] = 11)
     and (codes[5] = 999) and (accounts[5] = 999) and (numbers[5] = 999));
-  See('allocate', (dilbreth_allocate(method, form, codes, 5, accounts, 5, numbers, 5, exercised, draw,
+  See('allocate', (dilbreth_allocate(method, exercised, draw, increment, form, codes, 5, accounts, 5, numbers, 5,
     amounts, 6, total, further) = 0)
     and (total = 36) and (further = 18) and (CompareDWord(amounts, AMOUNTS_OF_M, 6) = 0));
   FillDWord(amounts, 6, 999);
-  See('allocate a part of the lists', (dilbreth_allocate(DILBRETH_PRO_RATA, form, codes, 0, accounts[1], 3, numbers[2],
-    3, 23, 0, amounts[3], 3, total, further) = 0)
+  See('allocate a part of the lists', (dilbreth_allocate(DILBRETH_PRO_RATA, 23, 0, DILBRETH_DEFAULT_INCREMENT, form,
+    codes, 0, accounts[1], 3, numbers[2], 3, amounts[3], 3, total, further) = 0)
     and (total = 23) and (amounts[2] = 999) and (CompareDWord(amounts[3], numbers[2], 3) = 0));
   total := 999;
   further := 998;
-  See('allocate refuses 9', (dilbreth_allocate(DILBRETH_WHEEL, form, codes, 5, accounts, 5, numbers, 5, 37,
-    1, amounts, 6, total, further) = 9) and (total = 999) and (further = 998));
+  See('allocate refuses 9', (dilbreth_allocate(DILBRETH_WHEEL, 37, 1, DILBRETH_DEFAULT_INCREMENT, form, codes, 5,
+    accounts, 5, numbers, 5, amounts, 6, total, further) = 9) and (total = 999) and (further = 998));
   See('allocate a whole series of W without a draw', (Undrawn(DILBRETH_WHEEL, 5, 36) = 0)
     and (total = 36) and (further = 0) and (CompareDWord(amounts, numbers, 6) = 0));
   See('allocate a whole series of L without a draw', (Undrawn(DILBRETH_LOTTERY, 5, 36) = 0)
@@ -129,14 +134,14 @@ begin
   See('allocate one position of L without a draw', (Undrawn(DILBRETH_LOTTERY, 1, 4) = 0)
     and (total = 5) and (further = 0) and (amounts[0] = 4) and (amounts[1] = 999));
   See('allocate refuses 10 for one position of W', (Undrawn(DILBRETH_WHEEL, 1, 4) = 10) and (amounts[0] = 999));
-  See('write', (dilbreth_write(method, exercised, draw, form, codes, 5, accounts, 5, numbers, 5,
+  See('write', (dilbreth_write(method, exercised, draw, increment, form, codes, 5, accounts, 5, numbers, 5,
     PByte(bytes), Length(bytes), written) = 0)
     and (First(written) = series) and (bytes[written + 1] = 'x'));
   See('read refuses 13 for eleven digits', (ReadText(ELEVEN) = 13) and (accounts[0] = 999) and (numbers[0] = 999));
   See('read leading zeros', (ReadText(M_SPELLED) = 0) and (exercised = 13) and (draw = 4855) and (positions = 5)
     and (accounts[0] = 1) and (numbers[2] = 2) and (accounts[4] = 5) and (accounts[5] = 999));
   bytes := StringOfChar('x', 100);
-  See('write no leading zeros', (dilbreth_write(method, exercised, draw, form, codes, 5, accounts, 5,
+  See('write no leading zeros', (dilbreth_write(method, exercised, draw, increment, form, codes, 5, accounts, 5,
     numbers, 5, PByte(bytes), Length(bytes), written) = 0)
     and (First(written) = series) and (bytes[written + 1] = 'x'));
   See('respond', (dilbreth_respond(PByte(series), Length(series), PByte(bytes), Length(bytes), written) = 0)
@@ -144,15 +149,15 @@ begin
   See('read codes', (ReadText(A_CODED) = 0) and (method = DILBRETH_WHEEL) and (positions = 3)
     and (codes[2] = 30) and (accounts[2] = 100) and (numbers[2] = 95) and (codes[3] = 999));
   FillDWord(amounts, 6, 999);
-  See('allocate by codes', (dilbreth_allocate(method, form, codes, 3, accounts, 3, numbers, 3, exercised,
-    draw, amounts, 6, total, further) = 0)
+  See('allocate by codes', (dilbreth_allocate(method, exercised, draw, increment, form, codes, 3, accounts, 3,
+    numbers, 3, amounts, 6, total, further) = 0)
     and (total = 355) and (further = 7) and (CompareDWord(amounts, AMOUNTS_OF_A, 6) = 0));
-  See('allocate refuses 1 for codes of another length under W', dilbreth_allocate(method, form, codes, 2,
-    accounts, 3, numbers, 3, exercised, draw, amounts, 6, total, further) = 1);
-  See('allocate refuses 5 for accounts that fall under P', dilbreth_allocate(DILBRETH_PRO_RATA, form, codes, 2,
-    accounts, 3, numbers, 3, exercised, draw, amounts, 6, total, further) = 5);
+  See('allocate refuses 1 for codes of another length under W', dilbreth_allocate(method, exercised, draw, increment,
+    form, codes, 2, accounts, 3, numbers, 3, amounts, 6, total, further) = 1);
+  See('allocate refuses 5 for accounts that fall under P', dilbreth_allocate(DILBRETH_PRO_RATA, exercised, draw,
+    increment, form, codes, 2, accounts, 3, numbers, 3, amounts, 6, total, further) = 5);
   bytes := StringOfChar('x', 100);
-  See('write codes', (dilbreth_write(method, exercised, draw, form, codes, 3, accounts, 3, numbers, 3,
+  See('write codes', (dilbreth_write(method, exercised, draw, increment, form, codes, 3, accounts, 3, numbers, 3,
     PByte(bytes), Length(bytes), written) = 0)
     and (First(written) = A_CODED) and (bytes[written + 1] = 'x'));
   series := A_CODED;
@@ -160,8 +165,8 @@ begin
     written) = 0) and (First(written) = A_ASSIGNED));
   See('read R', (ReadText(M_DRAWN) = 0) and (method = DILBRETH_REMAINDER_DRAW) and (draw = 53) and (positions = 5));
   FillDWord(amounts, 6, 999);
-  See('allocate under R without a code', (dilbreth_allocate(DILBRETH_REMAINDER_DRAW, form, codes, 0, accounts,
-    5, numbers, 5, exercised, draw, amounts, 6, total, further) = 0)
+  See('allocate under R without a code', (dilbreth_allocate(DILBRETH_REMAINDER_DRAW, exercised, draw, increment, form,
+    codes, 0, accounts, 5, numbers, 5, amounts, 6, total, further) = 0)
     and (total = 36) and (further = 18) and (CompareDWord(amounts, AMOUNTS_OF_M, 6) = 0));
   See('allocate a whole series of R', (Undrawn(DILBRETH_REMAINDER_DRAW, 5, 36) = 0)
     and (total = 36) and (further = 0) and (CompareDWord(amounts, numbers, 6) = 0));
@@ -175,21 +180,21 @@ begin
     and (exercised = 13) and (draw = 4855) and (positions = 5) and (accounts[4] = 5) and (numbers[1] = 13)
     and (numbers[4] = 36) and (numbers[5] = 999));
   FillDWord(amounts, 6, 999);
-  See('allocate by last numbers', (dilbreth_allocate(method, form, codes, 5, accounts, 5, numbers, 5,
-    exercised, draw, amounts, 6, total, further) = 0)
+  See('allocate by last numbers', (dilbreth_allocate(method, exercised, draw, increment, form, codes, 5, accounts, 5,
+    numbers, 5, amounts, 6, total, further) = 0)
     and (total = 36) and (further = 18) and (CompareDWord(amounts, AMOUNTS_OF_M, 6) = 0));
   bytes := StringOfChar('x', 100);
-  See('write last numbers', (dilbreth_write(method, exercised, draw, form, codes, 5, accounts, 5,
-    numbers, 5, PByte(bytes), Length(bytes), written) = 0)
+  See('write last numbers', (dilbreth_write(method, exercised, draw, increment, form, codes, 5, accounts, 5, numbers,
+    5, PByte(bytes), Length(bytes), written) = 0)
     and (First(written) = M_LASTS) and (bytes[written + 1] = 'x'));
   series := M_LASTS;
   See('respond to last numbers', (dilbreth_respond(PByte(series), Length(series), PByte(bytes), Length(bytes),
     written) = 0) and (First(written) = M_ASSIGNED));
   numbers[0] := 0;
-  See('allocate refuses 20', dilbreth_allocate(method, 2, codes, 0, accounts, 5, numbers, 5, exercised,
-    draw, amounts, 6, total, further) = 20);
-  See('allocate refuses 6 in the form of shorts', dilbreth_allocate(method, DILBRETH_SHORTS, codes, 0, accounts,
-    5, numbers, 5, exercised, draw, amounts, 6, total, further) = 6);
+  See('allocate refuses 20', dilbreth_allocate(method, exercised, draw, increment, 2, codes, 0, accounts, 5, numbers,
+    5, amounts, 6, total, further) = 20);
+  See('allocate refuses 6 in the form of shorts', dilbreth_allocate(method, exercised, draw, increment,
+    DILBRETH_SHORTS, codes, 0, accounts, 5, numbers, 5, amounts, 6, total, further) = 6);
   See('change to shorts', (Change(M_LASTS, 100) = 0) and (First(written) = M) and (bytes[written + 1] = 'x'));
   See('change to last numbers', (Change(M, 100) = 0) and (First(written) = M_LASTS) and (bytes[written + 1] = 'x'));
   See('change with codes', (Change(A_CODED, 100) = 0) and (First(written) = A_LASTS));
@@ -197,10 +202,32 @@ begin
   See('change refuses 4', (Change(A_LASTS, Length(A_CODED) - 1) = 4) and (written = 999)
     and (bytes = StringOfChar('x', 100)));
   See('change refuses 13', (Change(ELEVEN, 100) = 13) and (written = 999) and (bytes = StringOfChar('x', 100)));
+  { No two numbers of line 2 are equal, so each must reach its place. }
+  See('read an increment', (ReadText(TENS) = 0) and (method = DILBRETH_WHEEL) and (exercised = 65) and (draw = 340)
+    and (increment = 10) and (form = DILBRETH_SHORTS) and (positions = 3) and (numbers[2] = 95));
+  FillDWord(amounts, 6, 999);
+  See('allocate by tens', (dilbreth_allocate(method, exercised, draw, increment, form, codes, 3, accounts, 3,
+    numbers, 3, amounts, 6, total, further) = 0)
+    and (total = 355) and (further = 7) and (CompareDWord(amounts, AMOUNTS_OF_TENS, 6) = 0));
+  bytes := StringOfChar('x', 100);
+  See('write an increment', (dilbreth_write(method, exercised, draw, increment, form, codes, 3, accounts, 3,
+    numbers, 3, PByte(bytes), Length(bytes), written) = 0)
+    and (First(written) = TENS) and (bytes[written + 1] = 'x'));
+  See('change by tens', (Change(TENS, 100) = 0) and (First(written) = TENS_LASTS) and (bytes[written + 1] = 'x'));
+  series := TENS_LASTS;
+  See('respond by tens', (dilbreth_respond(PByte(series), Length(series), PByte(bytes), Length(bytes),
+    written) = 0) and (First(written) = TENS_ASSIGNED));
+  See('allocate refuses 23 for 0, also where S equals T', dilbreth_allocate(method, 355, 0, 0, form, codes, 3,
+    accounts, 3, numbers, 3, amounts, 6, total, further) = 23);
+  See('allocate refuses 23 for 1,001', dilbreth_allocate(method, exercised, draw, 1001, form, codes, 3, accounts, 3,
+    numbers, 3, amounts, 6, total, further) = 23);
+  numbers[1] := 1000000;
+  See('allocate refuses 24', dilbreth_allocate(method, 1000001, draw, 1, form, codes, 3, accounts, 3, numbers, 3,
+    amounts, 6, total, further) = 24);
   See('read codes again', ReadText(A_CODED) = 0);
   accounts[2] := 500;
-  See('allocate refuses 19', dilbreth_allocate(method, form, codes, 3, accounts, 3, numbers, 3, exercised,
-    draw, amounts, 6, total, further) = 19);
+  See('allocate refuses 19', dilbreth_allocate(method, exercised, draw, increment, form, codes, 3, accounts, 3,
+    numbers, 3, amounts, 6, total, further) = 19);
   See('investor X', (Investor(DILBRETH_ORDINARY_DAY, 15, 0, 20, 0, 0, 10, 35) = 0) and After(35, 0, 10));
   See('investor X, final day', (Investor(DILBRETH_FINAL_DAY, 15, 0, 20, 0, 0, 10, 25) = 0) and After(25, 0, 0));
   See('investor Y', (Investor(DILBRETH_ORDINARY_DAY, 0, 20, 20, 0, 0, 0, 0) = 0) and After(20, 20, 20));
@@ -224,6 +251,8 @@ begin
   See('market-maker refuses 16', (MarketMaker(DILBRETH_ORDINARY_DAY, 0, 0, 0, 10000001) = 16) and (limit = 999));
   See('explain', First(dilbreth_explain(9, PByte(bytes), Length(bytes)))
     = 'more is exercised than the positions hold'#10);
+  See('explain 23', First(dilbreth_explain(23, PByte(bytes), Length(bytes)))
+    = 'the increment is 0 or above 1,000 (W)'#10);
   WriteLn('Pascal: ', wrong, ' wrong');
   if wrong > 0 then
     Halt(1);

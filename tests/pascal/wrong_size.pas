@@ -31,24 +31,25 @@ var
 
 begin
   bytes := PByte(@list);
-  dilbreth_allocate(80, 0, other_list, 0, list, 0, list, 0, 0, 0, list, 0, number, number); { refused }
-  dilbreth_allocate(80, 0, list, 0, other_list, 0, list, 0, 0, 0, list, 0, number, number); { refused }
-  dilbreth_allocate(80, 0, list, 0, list, 0, other_list, 0, 0, 0, list, 0, number, number); { refused }
-  dilbreth_allocate(80, 0, list, 0, list, 0, list, 0, 0, 0, other_list, 0, number, number); { refused }
-  dilbreth_allocate(80, 0, list, 0, list, 0, list, 0, 0, 0, list, 0, other_number, number); { refused }
-  dilbreth_allocate(80, 0, list, 0, list, 0, list, 0, 0, 0, list, 0, number, other_number); { refused }
-  dilbreth_read(bytes, 0, other_list, 0, list, 0, list, 0, letter, number, number, number, len); { refused }
-  dilbreth_read(bytes, 0, list, 0, other_list, 0, list, 0, letter, number, number, number, len); { refused }
-  dilbreth_read(bytes, 0, list, 0, list, 0, other_list, 0, letter, number, number, number, len); { refused }
-  dilbreth_read(bytes, 0, list, 0, list, 0, list, 0, other_letter, number, number, number, len); { refused }
-  dilbreth_read(bytes, 0, list, 0, list, 0, list, 0, letter, other_number, number, number, len); { refused }
-  dilbreth_read(bytes, 0, list, 0, list, 0, list, 0, letter, number, other_number, number, len); { refused }
-  dilbreth_read(bytes, 0, list, 0, list, 0, list, 0, letter, number, number, other_number, len); { refused }
-  dilbreth_read(bytes, 0, list, 0, list, 0, list, 0, letter, number, number, number, other_len); { refused }
-  dilbreth_write(80, 0, 0, 0, other_list, 0, list, 0, list, 0, bytes, 0, len); { refused }
-  dilbreth_write(80, 0, 0, 0, list, 0, other_list, 0, list, 0, bytes, 0, len); { refused }
-  dilbreth_write(80, 0, 0, 0, list, 0, list, 0, other_list, 0, bytes, 0, len); { refused }
-  dilbreth_write(80, 0, 0, 0, list, 0, list, 0, list, 0, bytes, 0, other_len); { refused }
+  dilbreth_allocate(80, 0, 0, 0, 0, other_list, 0, list, 0, list, 0, list, 0, number, number); { refused }
+  dilbreth_allocate(80, 0, 0, 0, 0, list, 0, other_list, 0, list, 0, list, 0, number, number); { refused }
+  dilbreth_allocate(80, 0, 0, 0, 0, list, 0, list, 0, other_list, 0, list, 0, number, number); { refused }
+  dilbreth_allocate(80, 0, 0, 0, 0, list, 0, list, 0, list, 0, other_list, 0, number, number); { refused }
+  dilbreth_allocate(80, 0, 0, 0, 0, list, 0, list, 0, list, 0, list, 0, other_number, number); { refused }
+  dilbreth_allocate(80, 0, 0, 0, 0, list, 0, list, 0, list, 0, list, 0, number, other_number); { refused }
+  dilbreth_read(bytes, 0, other_letter, number, number, number, number, list, 0, list, 0, list, 0, len); { refused }
+  dilbreth_read(bytes, 0, letter, other_number, number, number, number, list, 0, list, 0, list, 0, len); { refused }
+  dilbreth_read(bytes, 0, letter, number, other_number, number, number, list, 0, list, 0, list, 0, len); { refused }
+  dilbreth_read(bytes, 0, letter, number, number, other_number, number, list, 0, list, 0, list, 0, len); { refused }
+  dilbreth_read(bytes, 0, letter, number, number, number, other_number, list, 0, list, 0, list, 0, len); { refused }
+  dilbreth_read(bytes, 0, letter, number, number, number, number, other_list, 0, list, 0, list, 0, len); { refused }
+  dilbreth_read(bytes, 0, letter, number, number, number, number, list, 0, other_list, 0, list, 0, len); { refused }
+  dilbreth_read(bytes, 0, letter, number, number, number, number, list, 0, list, 0, other_list, 0, len); { refused }
+  dilbreth_read(bytes, 0, letter, number, number, number, number, list, 0, list, 0, list, 0, other_len); { refused }
+  dilbreth_write(80, 0, 0, 0, 0, other_list, 0, list, 0, list, 0, bytes, 0, len); { refused }
+  dilbreth_write(80, 0, 0, 0, 0, list, 0, other_list, 0, list, 0, bytes, 0, len); { refused }
+  dilbreth_write(80, 0, 0, 0, 0, list, 0, list, 0, other_list, 0, bytes, 0, len); { refused }
+  dilbreth_write(80, 0, 0, 0, 0, list, 0, list, 0, list, 0, bytes, 0, other_len); { refused }
   dilbreth_change(bytes, 0, bytes, 0, other_len); { refused }
   dilbreth_respond(bytes, 0, bytes, 0, other_len); { refused }
   dilbreth_process_investor(0, 0, 0, 0, 0, 0, 0, 0, other_number, number, number); { refused }

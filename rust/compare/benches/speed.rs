@@ -4,10 +4,10 @@ use std::hint::black_box;
 use std::process::Stdio;
 use std::time::{Duration, Instant};
 
-use compare::make::{self, Series};
+use compare::make::{self, Columns, Field, Series};
 use compare::program::{Program, TextFile, PROGRAMS};
 use compare::random::Random;
-use compare::{days, library_form, plain, Form, List, FORMS};
+use compare::{days, library_form, plain, Form, List, Terms, DEFAULT_INCREMENT, FORMS};
 use dilbreth::calls;
 use reference::day::{Investor, MarketMaker};
 
@@ -56,6 +56,7 @@ struct Row {
     positions: usize,
     total: u64,
     exercised: u32,
+    increment: u32,
 }
 
 // Positions of unequal size with T contracts in all.
@@ -73,20 +74,34 @@ fn list(positions: usize, total: u64) -> Series {
 }
 
 // One call of the library that is no refusal.
-fn library(method: u8, list: List, exercised: u32, draw: u32, amounts: &mut [u32]) {
-    let List { form, codes, accounts, numbers } = black_box(list);
-    let form = library_form(form).number();
+fn library(terms: Terms, list: List, amounts: &mut [u32]) {
+    let Terms { method, exercised, draw, increment } = terms;
+    // One by one: from a whole list in memory two neighbours would be loaded at once, which stalls the call.
+    let (codes, accounts, numbers) = (black_box(list.codes), black_box(list.accounts), black_box(list.numbers));
+    let form = library_form(list.form).number();
     let (mut total, mut further) = (0, 0);
     let (t, f) = (&mut total, &mut further);
-    let number = calls::allocate(method, form, codes, accounts, numbers, exercised, draw, amounts, t, f);
+    let number = calls::allocate(method, exercised, draw, increment, form, codes, accounts, numbers, amounts, t, f);
     assert_eq!(black_box((number, total)).0, 0);
     black_box(amounts);
 }
 
-type Plain = fn(List, u32, u32, &mut [u32]) -> Result<(u32, u32), u32>;
+type Plain = fn(Terms, List, &mut [u32]) -> Result<(u32, u32), u32>;
 
-fn by_method<const METHOD: u8>(list: List, exercised: u32, draw: u32, amounts: &mut [u32]) -> Result<(u32, u32), u32> {
-    plain::allocate(METHOD, list, exercised, draw, amounts)
+fn by_method<const METHOD: u8>(terms: Terms, list: List, amounts: &mut [u32]) -> Result<(u32, u32), u32> {
+    plain::allocate(Terms { method: METHOD, ..terms }, list, amounts)
+}
+
+// The method of a row, with its form or increment where it is not the usual one.
+fn label(row: &Row) -> String {
+    let mut label = char::from(row.method).to_string();
+    if row.form == Form::LastNumbers {
+        label += " last";
+    }
+    if row.increment != DEFAULT_INCREMENT {
+        label += &format!(" by {}", row.increment);
+    }
+    label
 }
 
 fn allocation(row: Row) {
@@ -99,8 +114,9 @@ fn allocation(row: Row) {
         b'R' => 3_333_333_333,
         _ => 3_333,
     };
+    let terms = Terms::new(method, exercised, draw).by(row.increment);
     let step = median(|| {
-        let answer = reference::allocate(method, black_box(list), exercised, draw, row.positions);
+        let answer = reference::allocate(terms, black_box(list), row.positions);
         black_box(answer.expect("an allocation"));
     });
     let mut amounts = [vec![0u32; row.positions], vec![0u32; row.positions], vec![0u32; row.positions]];
@@ -110,13 +126,13 @@ fn allocation(row: Row) {
             if cleared {
                 black_box(&mut *ours).fill(0);
             }
-            library(method, list, exercised, draw, ours);
+            library(terms, list, ours);
         };
         let call_plain = |allocate: Plain, amounts: &mut Vec<u32>| {
             if cleared {
                 black_box(&mut *amounts).fill(0);
             }
-            let answer = allocate(black_box(list), exercised, draw, amounts);
+            let answer = allocate(terms, black_box(list), amounts);
             black_box(answer.expect("an allocation"));
             black_box(&amounts);
         };
@@ -139,12 +155,8 @@ fn allocation(row: Row) {
             }
         };
         println!(
-            "{:<7}{:>10}{:>11}{:>11}{:>9}{:>12}{:>12}{:>12}{:>12}{:>12.4}{:>12.2}{:>12}",
-            if row.form == Form::Shorts {
-                char::from(method).to_string()
-            } else {
-                format!("{} last", char::from(method))
-            },
+            "{:<10}{:>10}{:>11}{:>11}{:>9}{:>12}{:>12}{:>12}{:>12}{:>12.4}{:>12.2}{:>12}",
+            label(&row),
             row.positions,
             row.total,
             exercised,
@@ -175,12 +187,12 @@ fn allocations() {
     println!(
         "3123/7919 they are spread as far as the shorts differ. With these T nothing remains of one position for round two."
     );
-    println!("'last': the list in the form of last numbers, else of shorts.");
+    println!("'last': the list in the form of last numbers, else of shorts. 'by': the increment, else 25.");
     println!(
         "Cleared: the output was filled with 0 before each call, within the time; else it holds the last amounts."
     );
     println!(
-        "{:<7}{:>10}{:>11}{:>11}{:>9}{:>12}{:>12}{:>12}{:>12}{:>12}{:>12}{:>12}",
+        "{:<10}{:>10}{:>11}{:>11}{:>9}{:>12}{:>12}{:>12}{:>12}{:>12}{:>12}{:>12}",
         "method",
         "positions",
         "T",
@@ -206,17 +218,27 @@ fn allocations() {
                 if method == b'P' {
                     exercised.push((total * 3_123 / 7_919) as u32);
                 }
+                let increment = DEFAULT_INCREMENT;
                 for exercised in exercised {
-                    allocation(Row { method, form: Form::Shorts, positions, total, exercised });
+                    allocation(Row { method, form: Form::Shorts, positions, total, exercised, increment });
                 }
-                allocation(Row {
-                    method,
-                    form: Form::LastNumbers,
-                    positions,
-                    total,
-                    exercised: (total * 3 / 7) as u32,
-                });
+                let exercised = (total * 3 / 7) as u32;
+                allocation(Row { method, form: Form::LastNumbers, positions, total, exercised, increment });
             }
+        }
+    }
+    by_increments();
+}
+
+// W at T = 10,000,000 by increments from 1 to 1,000; by 1 no more can be exercised, and by 10 with all but one contract
+// exercised there are as many blocks.
+fn by_increments() {
+    let total = 10_000_000;
+    for positions in [10, 100, 1_024, 4_096] {
+        for (increment, exercised) in
+            [(1, 1_000_000), (10, 1_000_000), (10, 9_999_999), (25, 1_000_000), (1_000, 1_000_000), (1_000, 9_999_999)]
+        {
+            allocation(Row { method: b'W', form: Form::Shorts, positions, total, exercised, increment });
         }
     }
 }
@@ -235,11 +257,12 @@ fn orders(positions: usize, random: &mut Random) -> [(&'static str, Vec<u32>); 5
 }
 
 fn distinct_row(order: &str, list: List, exercised: u32, name: &str) {
+    let terms = Terms::new(b'W', exercised, 1);
     let mut amounts = [(); 2].map(|_| vec![0; list.numbers.len()]);
     let [ours, theirs] = &mut amounts;
-    let mut call_library = || library(b'W', list, exercised, 1, ours);
+    let mut call_library = || library(terms, list, ours);
     let mut call_plain = || {
-        black_box(plain::allocate(b'W', black_box(list), exercised, 1, theirs).expect("an allocation"));
+        black_box(plain::allocate(terms, black_box(list), theirs).expect("an allocation"));
         black_box(&theirs);
     };
     let [ours, theirs] = medians([&mut call_library, &mut call_plain]);
@@ -296,9 +319,10 @@ fn text_row(call: &str, positions: usize, bytes: usize, library: f64, plain: f64
 fn reading(text: &[u8], positions: usize, note: &str) {
     let [mut c, mut a, mut n, mut c2, mut a2, mut n2] = [(); 6].map(|_| vec![0; positions]);
     let mut call_library = || {
-        let (mut method, mut exercised, mut draw, mut form, mut found) = (0, 0, 0, 0, 0);
-        let (text, terms) = (black_box(text), (&mut method, &mut exercised, &mut draw, &mut form));
-        let number = calls::read(text, &mut c, &mut a, &mut n, terms.0, terms.1, terms.2, terms.3, &mut found);
+        let (mut terms, mut form, mut found) = (Terms::new(0, 0, 0), 0, 0);
+        let Terms { method, exercised, draw, increment } = &mut terms;
+        let (text, form) = (black_box(text), &mut form);
+        let number = calls::read(text, method, exercised, draw, increment, form, &mut c, &mut a, &mut n, &mut found);
         assert_eq!(black_box((number, found)), (0, positions));
         black_box((&c, &a, &n));
     };
@@ -310,18 +334,19 @@ fn reading(text: &[u8], positions: usize, note: &str) {
     text_row("read", positions, text.len(), library, best, note);
 }
 
-fn writing(list: List, length: usize, note: &str) {
+fn writing(terms: Terms, list: List, length: usize, note: &str) {
     let (mut out, mut out2) = (vec![0; length], vec![0; length]);
     let mut call_library = || {
         let mut written = 0;
+        let Terms { method, exercised, draw, increment } = terms;
         let List { form, codes, accounts, numbers } = black_box(list);
-        let form = library_form(form).number();
-        let number = calls::write(b'W', 500, 77, form, codes, accounts, numbers, &mut out, &mut written);
+        let (form, text, count) = (library_form(form).number(), &mut out, &mut written);
+        let number = calls::write(method, exercised, draw, increment, form, codes, accounts, numbers, text, count);
         assert_eq!(black_box((number, written)), (0, length));
         black_box(&out);
     };
     let mut call_plain = || {
-        black_box(plain::write(b'W', 500, 77, black_box(list), &mut out2).expect("a text"));
+        black_box(plain::write(terms, black_box(list), &mut out2).expect("a text"));
         black_box(&out2);
     };
     let [library, best] = medians([&mut call_library, &mut call_plain]);
@@ -415,14 +440,19 @@ fn text_list(positions: usize) -> Series {
 }
 
 fn text_of(method: u8, list: List) -> Vec<u8> {
-    reference::write(method, 500, 77, list, usize::MAX).expect("a text")
+    text_with(Terms::new(method, 500, 77), list)
+}
+
+fn text_with(terms: Terms, list: List) -> Vec<u8> {
+    reference::write(terms, list, usize::MAX).expect("a text")
 }
 
 // Reading, writing and responding, the codes being the accounts or others.
 fn whole_text(list: List, note: &str) {
-    let (text, positions) = (text_of(b'W', list), list.accounts.len());
+    let terms = Terms::new(b'W', 500, 77);
+    let (text, positions) = (text_with(terms, list), list.accounts.len());
     reading(&text, positions, note);
-    writing(list, text.len(), note);
+    writing(terms, list, text.len(), note);
     responding(&text, positions, note);
 }
 
@@ -450,7 +480,8 @@ fn texts() {
     }
     let shorts = few_contracts(1_024, &mut Random::new(0xBE7C_5000));
     let text = text_of(b'W', List::by_account(&make::upward(1_024), &shorts));
-    let is_account = |i| make::is_account(make::field(false, i));
+    let columns = Columns { increment: false, codes: false };
+    let is_account = |i| columns.field(i) == Field::Account;
     let four_digits = make::spelled(&text, |i, digits| if is_account(i) { 4 } else { digits });
     reading(&four_digits, 1_024, "   (accounts 0001 to 1024)");
     reading(&make::spelled(&text, |_, _| 10), 1_024, "   (every number in ten digits)");
@@ -506,7 +537,7 @@ fn whole_run(program: Program, method: u8, form: Form) {
     let shorts: Vec<u32> = (0..1_024).map(|i| 9_000 + i % 700).collect();
     let accounts: Vec<u32> = (0..1_024).map(|i| 4_000_000_000 + 977 * i).collect();
     let list = Series::by_account(accounts, shorts).in_form(form);
-    let text = reference::write(method, list.total() as u32 - 1, 4_855, list.list(), usize::MAX).expect("a text");
+    let text = text_with(Terms::new(method, list.total() as u32 - 1, 4_855), list.list());
     let file = TextFile::new(&text);
     let run = |command: &mut std::process::Command| {
         let status = command.stdin(Stdio::from(file.open())).stdout(Stdio::null()).stderr(Stdio::null()).status();

@@ -3,7 +3,7 @@
 use std::fmt::Write;
 
 use reference::day::{Investor, MarketMaker};
-use reference::{Form, List};
+use reference::{Form, List, Terms};
 
 use crate::make::Series;
 use crate::program::{Feed, Program};
@@ -26,13 +26,10 @@ fn hex(bytes: &[u8]) -> String {
     out
 }
 
-// A method as its letter, another byte as its number.
-fn shown(method: u8) -> String {
-    if method.is_ascii_alphabetic() {
-        char::from(method).to_string()
-    } else {
-        method.to_string()
-    }
+// The method as its letter, another byte as its number.
+fn shown(Terms { method, exercised, draw, increment }: Terms) -> String {
+    let method = if method.is_ascii_alphabetic() { char::from(method).to_string() } else { method.to_string() };
+    format!("{method} {exercised} {draw} {increment}")
 }
 
 // The form as the word that line 3 has for it.
@@ -44,16 +41,16 @@ fn lists(List { form, codes, accounts, numbers }: List) -> String {
     format!("{form} {}", [codes, accounts, numbers].map(list).join(" "))
 }
 
-pub fn allocate(method: u8, list: List, exercised: u32, draw: u32, room: usize) -> String {
-    format!("allocate {} {} {exercised} {draw} {room}", shown(method), lists(list))
+pub fn allocate(terms: Terms, list: List, room: usize) -> String {
+    format!("allocate {} {} {room}", shown(terms), lists(list))
 }
 
 pub fn read(text: &[u8], rooms: [usize; 3]) -> String {
     format!("read {} {}", hex(text), rooms.map(|room| room.to_string()).join(" "))
 }
 
-pub fn write(method: u8, exercised: u32, draw: u32, list: List, room: usize) -> String {
-    format!("write {} {exercised} {draw} {} {room}", shown(method), lists(list))
+pub fn write(terms: Terms, list: List, room: usize) -> String {
+    format!("write {} {} {room}", shown(terms), lists(list))
 }
 
 pub fn change(text: &[u8], room: usize) -> String {
@@ -128,16 +125,16 @@ pub fn again(line: &str) -> Result<bool, String> {
     let words: Vec<&str> = line.split_whitespace().collect();
     let n = |i: usize| words[i].parse::<u32>().expect("a number");
     let room = |i: usize| words[i].parse::<usize>().expect("a length");
-    let series = |i: usize| {
-        let [codes, accounts, numbers] = [i + 1, i + 2, i + 3].map(|i| to_list(words[i]));
-        Series { form: to_form(words[i]), codes, accounts, numbers }
+    // Of the calls that take terms and a list.
+    let terms = || Terms { method: to_method(words[1]), exercised: n(2), draw: n(3), increment: n(4) };
+    let series = || {
+        let [codes, accounts, numbers] = [6, 7, 8].map(|i| to_list(words[i]));
+        Series { form: to_form(words[5]), codes, accounts, numbers }
     };
     match words[0] {
-        "allocate" => {
-            crate::allocate(to_method(words[1]), series(2).list(), n(6), n(7), room(8)).map(|number| number == 0)
-        }
+        "allocate" => crate::allocate(terms(), series().list(), room(9)).map(|number| number == 0),
         "read" => crate::read(&to_bytes(words[1]), [2, 3, 4].map(room)),
-        "write" => crate::write(to_method(words[1]), n(2), n(3), series(4).list(), room(8)),
+        "write" => crate::write(terms(), series().list(), room(9)),
         "change" => crate::change(&to_bytes(words[1]), room(2)),
         "respond" => crate::respond(&to_bytes(words[1]), room(2)),
         "process_investor" => crate::process_investor(n(1), to_counts(words[2])).map(|number| number == 0),

@@ -5,6 +5,7 @@
 pub mod archive;
 pub mod cases;
 pub mod days;
+pub mod library;
 pub mod make;
 pub mod plain;
 pub mod program;
@@ -13,7 +14,7 @@ pub mod random;
 use dilbreth::calls;
 use reference::day::{AfterDay, Investor, MarketMaker};
 use reference::Allocation;
-pub use reference::{Form, List, FORMS};
+pub use reference::{Form, List, Terms, DEFAULT_INCREMENT, FORMS};
 
 // What the outputs hold before a call: no amount, no account in use, no byte of a text.
 const EDGE: usize = 8;
@@ -61,12 +62,12 @@ impl<T: Copy + PartialEq> Lent<T> {
 }
 
 // The amounts add up to S, none is above its shorts, and under P each is less than one from its exact share.
-fn fair(method: u8, shorts: &[u32], exercised: u32, total: u32, amounts: &[u32]) -> bool {
+fn fair(terms: Terms, shorts: &[u32], found: &Allocation) -> bool {
     let wide = |n: &u32| u64::from(*n);
-    let (t, s) = (u64::from(total), u64::from(exercised));
-    amounts.iter().map(wide).sum::<u64>() == s
-        && shorts.iter().zip(amounts).all(|(short, amount)| {
-            amount <= short && (method != b'P' || (wide(short) * s).abs_diff(t * wide(amount)) < t)
+    let (t, s) = (u64::from(found.total), u64::from(terms.exercised));
+    found.amounts.iter().map(wide).sum::<u64>() == s
+        && shorts.iter().zip(&found.amounts).all(|(short, amount)| {
+            amount <= short && (terms.method != b'P' || (wide(short) * s).abs_diff(t * wide(amount)) < t)
         })
 }
 
@@ -78,30 +79,54 @@ pub fn library_form(form: Form) -> dilbreth::Form {
     }
 }
 
-// What an allocating call is handed; `room` is the length of its output.
-#[derive(Clone, Copy)]
-struct Call<'a> {
-    method: u8,
-    list: List<'a>,
-    exercised: u32,
-    draw: u32,
-    room: usize,
+/// Adds the library's amounts up over all starting places: each position gets its shorts × S. Answers whether each
+/// starting place was handed back. The terms are those of W, L or R, and their draw is not looked at.
+#[track_caller]
+pub fn shares(terms: Terms, list: &make::Series) -> bool {
+    let Terms { method, exercised, .. } = terms;
+    let (form, shorts) = (library_form(list.form).number(), list.list().shorts());
+    let total = shorts.iter().sum();
+    let mut sums = vec![0u64; shorts.len()];
+    // A whole series and one position have no starting place.
+    let started = method != b'W' && exercised < total && shorts.len() > 1;
+    for place in 1..=total {
+        // Under L and R a draw that leads to the place; under L there is one where T is at most 10,000.
+        let draw = match method {
+            b'L' => place * 10_000 / total,
+            b'R' => place - 1,
+            _ => place,
+        };
+        let (number, _, further, amounts) = library::allocate(Terms { draw, ..terms }, form, list);
+        assert_eq!(number, 0, "{terms:?} {list:?}");
+        if method != b'W' {
+            assert_eq!(further, if started { place } else { 0 });
+        }
+        for (sum, &amount) in sums.iter_mut().zip(&amounts) {
+            *sum += u64::from(amount);
+        }
+    }
+    for (sum, &short) in sums.iter().zip(&shorts) {
+        assert_eq!(*sum, u64::from(short) * u64::from(exercised), "{terms:?} {list:?}");
+    }
+    started
 }
 
-// Holds the library's answer to a call against the one expected; answers 0 or the number of the refusal.
-fn hold(call: Call, expected: &Result<Allocation, u32>) -> Result<u32, String> {
-    let Call { method, list, exercised, draw, room } = call;
+// Holds the library's answer to an allocating call against the one expected; answers 0 or the number of the refusal.
+// `room` is the length of the output.
+fn hold(terms: Terms, list: List, room: usize, expected: &Result<Allocation, u32>) -> Result<u32, String> {
+    let Terms { method, exercised, draw, increment } = terms;
     let List { form, codes, accounts, numbers } = list;
     let mut lent = Lent::new(room, kept_number);
     let (mut total, mut further) = (kept_number(1), kept_number(2));
     let number = calls::allocate(
         method,
+        exercised,
+        draw,
+        increment,
         library_form(form).number(),
         codes,
         accounts,
         numbers,
-        exercised,
-        draw,
         lent.slice(),
         &mut total,
         &mut further,
@@ -116,7 +141,7 @@ fn hold(call: Call, expected: &Result<Allocation, u32>) -> Result<u32, String> {
     }
     Err(format!(
         "{}\n  answer, T, further: expected {want:?}, found {found:?}; amounts differ {}",
-        cases::allocate(method, list, exercised, draw, room),
+        cases::allocate(terms, list, room),
         lent.first_difference(written, kept_number)
     ))
 }
@@ -131,19 +156,18 @@ fn exchanged(number: u32) -> u32 {
 }
 
 /// The allocating call, and the same with the list in the other form; answers 0 or the number of the refusal.
-pub fn allocate(method: u8, list: List, exercised: u32, draw: u32, room: usize) -> Result<u32, String> {
-    let call = Call { method, list, exercised, draw, room };
-    let expected = reference::allocate(method, list, exercised, draw, room);
-    let number = hold(call, &expected)?;
+pub fn allocate(terms: Terms, list: List, room: usize) -> Result<u32, String> {
+    let expected = reference::allocate(terms, list, room);
+    let number = hold(terms, list, room, &expected)?;
     if let Ok(found) = &expected {
-        if !fair(method, &list.shorts(), exercised, found.total, &found.amounts) {
-            let case = cases::allocate(method, list, exercised, draw, room);
+        if !fair(terms, &list.shorts(), found) {
+            let case = cases::allocate(terms, list, room);
             return Err(format!("{case}\n  both give {:?}, which is no fair share", found.amounts));
         }
     }
     let (form, numbers) = make::in_other_form(list);
     let other = List { form, numbers: &numbers, ..list };
-    hold(Call { list: other, ..call }, &expected.map_err(exchanged))?;
+    hold(terms, other, room, &expected.map_err(exchanged))?;
     Ok(number)
 }
 
@@ -152,20 +176,30 @@ pub fn allocate(method: u8, list: List, exercised: u32, draw: u32, room: usize) 
 pub fn read(text: &[u8], rooms: [usize; 3]) -> Result<bool, String> {
     let expected = reference::read(text, rooms);
     let mut lent = rooms.map(|room| Lent::new(room, kept_number));
-    let [mut exercised, mut draw, mut form] = [1, 2, 3].map(kept_number);
-    let (mut method, mut positions) = (kept_byte(1), !3);
-    let kept = (method, exercised, draw, form, positions);
+    let [exercised, draw, increment, mut form] = [1, 2, 3, 4].map(kept_number);
+    let mut terms = Terms { method: kept_byte(1), exercised, draw, increment };
+    let mut positions = !3;
+    let kept = (terms, form, positions);
     let [codes, accounts, numbers] = lent.each_mut().map(Lent::slice);
-    let number =
-        calls::read(text, codes, accounts, numbers, &mut method, &mut exercised, &mut draw, &mut form, &mut positions);
+    let number = calls::read(
+        text,
+        &mut terms.method,
+        &mut terms.exercised,
+        &mut terms.draw,
+        &mut terms.increment,
+        &mut form,
+        codes,
+        accounts,
+        numbers,
+        &mut positions,
+    );
     let (want, lists) = match &expected {
-        Ok(s) => (
-            (0, (s.method, s.exercised, s.draw, library_form(s.form).number(), s.numbers.len())),
-            [&s.codes[..], &s.accounts, &s.numbers],
-        ),
+        Ok(s) => {
+            ((0, (s.terms, library_form(s.form).number(), s.numbers.len())), [&s.codes[..], &s.accounts, &s.numbers])
+        }
         Err(n) => ((*n, kept), [&[][..]; 3]),
     };
-    let found = (number, (method, exercised, draw, form, positions));
+    let found = (number, (terms, form, positions));
     if found == want && lent.iter().zip(lists).all(|(lent, list)| lent.is(list, kept_number)) {
         return Ok(number == 0);
     }
@@ -204,14 +238,15 @@ fn hold_bytes(
 }
 
 /// The writing call; answers whether the text was written.
-pub fn write(method: u8, exercised: u32, draw: u32, list: List, room: usize) -> Result<bool, String> {
+pub fn write(terms: Terms, list: List, room: usize) -> Result<bool, String> {
+    let Terms { method, exercised, draw, increment } = terms;
     let List { form, codes, accounts, numbers } = list;
     let form = library_form(form).number();
     hold_bytes(
-        reference::write(method, exercised, draw, list, room),
+        reference::write(terms, list, room),
         room,
-        |text, length| calls::write(method, exercised, draw, form, codes, accounts, numbers, text, length),
-        || cases::write(method, exercised, draw, list, room),
+        |text, length| calls::write(method, exercised, draw, increment, form, codes, accounts, numbers, text, length),
+        || cases::write(terms, list, room),
     )
 }
 
@@ -343,28 +378,31 @@ pub fn explain(number: u32, line: &[u8], room: usize) -> Result<bool, String> {
     ))
 }
 
+/// The highest number of a refusal.
+pub const LAST_REFUSAL: usize = 24;
+
 /// Counts the cases of a test; a case that differs ends it.
 pub struct Count {
     what: &'static str,
     accepted: u64,
     refused: u64,
     undrawn: [u64; 2],
-    met: [u64; 21],
+    met: [u64; LAST_REFUSAL + 1],
 }
 
 impl Count {
     pub fn new(what: &'static str) -> Count {
-        Count { what, accepted: 0, refused: 0, undrawn: [0; 2], met: [0; 21] }
+        Count { what, accepted: 0, refused: 0, undrawn: [0; 2], met: [0; LAST_REFUSAL + 1] }
     }
 
     /// One allocating call as a case; answers 0 or the number of the refusal.
     #[track_caller]
-    pub fn allocate(&mut self, method: u8, list: List, exercised: u32, draw: u32, room: usize) -> u32 {
-        let outcome = allocate(method, list, exercised, draw, room);
+    pub fn allocate(&mut self, terms: Terms, list: List, room: usize) -> u32 {
+        let outcome = allocate(terms, list, room);
         let number = outcome.as_ref().map_or(0, |number| *number);
         self.met[number as usize] += 1;
         if self.case(outcome.map(|number| number == 0)) {
-            self.allocated(method, list, exercised, draw);
+            self.allocated(terms, list);
         }
         number
     }
@@ -375,10 +413,10 @@ impl Count {
     }
 
     /// Counts an allocation where its draw is out of range.
-    pub fn allocated(&mut self, method: u8, list: List, exercised: u32, draw: u32) {
+    pub fn allocated(&mut self, terms: Terms, list: List) {
         let total = list.shorts().iter().sum();
-        if reference::judge_draw(method, total, draw).is_err() {
-            self.undrawn[usize::from(exercised < total)] += 1;
+        if reference::judge_draw(terms, total).is_err() {
+            self.undrawn[usize::from(terms.exercised < total)] += 1;
         }
     }
 
@@ -410,6 +448,10 @@ impl Count {
         let [order, again, none, last] = self.met([5, 19, 6, 20]);
         if again + last > 0 {
             println!("{}: refused by 5 {order}, by 19 {again}, by 6 {none}, by 20 {last}", self.what);
+        }
+        let [increment, blocks] = self.met([23, 24]);
+        if increment + blocks > 0 {
+            println!("{}: refused by 23 {increment}, by 24 {blocks}", self.what);
         }
     }
 }

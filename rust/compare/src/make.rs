@@ -2,16 +2,68 @@
 
 use std::collections::BTreeSet;
 
-use reference::{Form, List, FORMS};
+use reference::{Form, List, Terms, DEFAULT_INCREMENT, FORMS};
 
 use crate::random::Random;
 
 pub const METHODS: [u8; 4] = *b"WPLR";
 
-/// The fields of a text that are numbers: S, the draw, an account and its number where there is no column of codes; then
-/// S, the draw, a code, an account and its number where there is.
-pub const FIELDS: usize = 9;
-const WITHOUT_CODE: usize = 4;
+/// Increments at both ends of those that W takes and past them, those that 24 ends between, and 25 with its neighbours.
+pub const INCREMENTS: [u32; 12] = [0, 1, 2, 9, 10, 24, 25, 26, 999, 1_000, 1_001, u32::MAX];
+
+/// Which of the columns that may be left out a text has: the increment in lines 1 and 2, the codes from line 3 on.
+#[derive(Clone, Copy, Debug, PartialEq, Eq)]
+pub struct Columns {
+    pub increment: bool,
+    pub codes: bool,
+}
+
+pub const COLUMNS: [Columns; 4] = [
+    Columns { increment: false, codes: false },
+    Columns { increment: false, codes: true },
+    Columns { increment: true, codes: false },
+    Columns { increment: true, codes: true },
+];
+
+/// The fields of a text that are numbers.
+#[derive(Clone, Copy, Debug, PartialEq, Eq)]
+pub enum Field {
+    Exercised,
+    Draw,
+    Increment,
+    Code,
+    Account,
+    Number,
+}
+
+pub const FIELDS: usize = 6;
+
+impl Columns {
+    /// The fields of line 2, and those of a position line.
+    fn of_lines(self) -> (&'static [Field], &'static [Field]) {
+        use Field::*;
+        let terms: &[Field] = if self.increment { &[Exercised, Draw, Increment] } else { &[Exercised, Draw] };
+        let position: &[Field] = if self.codes { &[Code, Account, Number] } else { &[Account, Number] };
+        (terms, position)
+    }
+
+    /// The field of a number by its index among the numbers of a text.
+    pub fn field(self, index: usize) -> Field {
+        let (terms, position) = self.of_lines();
+        match index.checked_sub(terms.len()) {
+            None => terms[index],
+            Some(after) => position[after % position.len()],
+        }
+    }
+}
+
+/// Every field of the texts with each of the columns.
+pub fn fields() -> impl Iterator<Item = (Columns, Field)> {
+    COLUMNS.into_iter().flat_map(|columns| {
+        let (terms, position) = columns.of_lines();
+        terms.iter().chain(position).map(move |&field| (columns, field))
+    })
+}
 
 #[derive(Clone, Debug)]
 pub struct Series {
@@ -225,18 +277,32 @@ pub fn draws(total: u32) -> [u32; 9] {
     [0, 1, 2, total / 2, total, total + 1, 10_000, 10_001, u32::MAX]
 }
 
+/// An increment, mostly one that W takes.
+pub fn increment(random: &mut Random) -> u32 {
+    match random.below(24) {
+        0..=6 => DEFAULT_INCREMENT,
+        7..=9 => random.pick(&INCREMENTS),
+        10 => random.bits() as u32,
+        11..=14 => random.between(1, 1_000) as u32,
+        _ => random.spread(1_000) as u32,
+    }
+}
+
 /// S for a list with T contracts.
-fn exercised(random: &mut Random, total: u64) -> u32 {
-    let s = match random.below(24) {
+fn exercised(random: &mut Random, total: u64, increment: u32) -> u32 {
+    let block = u64::from(increment.clamp(1, 1_000));
+    let most_blocks = block * 1_000_000;
+    let s = match random.below(26) {
         0 => 0,
         1 => total + 1,
         2 | 3 => total,
         4 | 5 => total - 1,
         6 | 7 => total - random.below(total.min(60)),
-        8 | 9 => (random.between(0, total / 25) * 25).max(1),
-        10 => (random.between(0, total / 25) * 25 + 1).min(total),
+        8 | 9 => (random.between(0, total / block) * block).max(1),
+        10 => (random.between(0, total / block) * block + 1).min(total),
         11 | 12 => random.spread(total),
         13 => total / 2,
+        14 | 15 if most_blocks < total => most_blocks + random.below(2),
         _ => random.between(1, total),
     };
     s as u32
@@ -266,15 +332,18 @@ fn draw(random: &mut Random, method: u8, total: u64) -> u32 {
     d.min(u64::from(u32::MAX)) as u32
 }
 
-/// S and a draw for a method and a list; of the whole series and of one position every other draw is out of the range
-/// of W or L.
-pub fn terms(random: &mut Random, method: u8, positions: usize, total: u64) -> (u32, u32) {
-    let exercised = exercised(random, total);
-    if (u64::from(exercised) == total || positions == 1) && random.one_in(2) {
+/// Terms for a method and a list; of the whole series and of one position every other draw is out of the range of W or
+/// L.
+pub fn terms(random: &mut Random, method: u8, positions: usize, total: u64) -> Terms {
+    let increment = increment(random);
+    let exercised = exercised(random, total, increment);
+    let draw = if (u64::from(exercised) == total || positions == 1) && random.one_in(2) {
         let highest = if method == b'W' { total as u32 } else { 10_000 };
-        return (exercised, random.pick(&[0, highest + 1, u32::MAX]));
-    }
-    (exercised, draw(random, method, total))
+        random.pick(&[0, highest + 1, u32::MAX])
+    } else {
+        draw(random, method, total)
+    };
+    Terms { method, exercised, draw, increment }
 }
 
 // Faults of W at one position, by code and account, or several at once.
@@ -346,10 +415,8 @@ pub fn spoil(random: &mut Random, list: &mut Series) {
 
 /// The values of an allocating call; `room` is the length of its output.
 pub struct Call {
-    pub method: u8,
+    pub terms: Terms,
     pub list: Series,
-    pub exercised: u32,
-    pub draw: u32,
     pub room: usize,
 }
 
@@ -365,7 +432,7 @@ pub fn calls(random: &mut Random, positions: u64, total: u64) -> [Call; 4] {
             let length = random.pick(&[0, 1, positions as usize + 1, 4_097]);
             list.codes = any_codes(random, length);
         }
-        let (exercised, draw) = terms(random, method, list.numbers.len(), list.total());
+        let terms = terms(random, method, list.numbers.len(), list.total());
         list = list.in_form(random.pick(&FORMS));
         if random.one_in(12) {
             for _ in 0..random.between(1, 3) {
@@ -378,7 +445,7 @@ pub fn calls(random: &mut Random, positions: u64, total: u64) -> [Call; 4] {
             2..=8 => list.numbers.len(),
             _ => list.numbers.len() + random.index(9),
         };
-        Call { method, list, exercised, draw, room }
+        Call { terms, list, room }
     })
 }
 
@@ -400,13 +467,22 @@ pub fn text(random: &mut Random, lines: usize) -> Vec<u8> {
         }
     }
     let total = list.total().clamp(1, u64::from(u32::MAX) - 1);
-    let (s, d) = if random.one_in(16) {
-        (random.bits() as u32, random.pick(&[0, u32::MAX, 4_294_967, 10]))
+    let mut terms = if random.one_in(16) {
+        let [exercised, increment] = [(); 2].map(|_| random.bits() as u32);
+        Terms { method, exercised, draw: random.pick(&[0, u32::MAX, 4_294_967, 10]), increment }
     } else {
         terms(random, method, lines, total)
     };
-    let text = reference::write(method, s, d, list.list(), usize::MAX).expect("at most 1,024 lines");
-    let text = if list.codes == list.accounts && random.one_in(3) { with_codes(&text) } else { text };
+    if random.one_in(2) {
+        terms = terms.by(DEFAULT_INCREMENT);
+    }
+    let mut text = reference::write(terms, list.list(), usize::MAX).expect("at most 1,024 lines");
+    if list.codes == list.accounts && random.one_in(3) {
+        text = with_codes(&text);
+    }
+    if terms.increment == DEFAULT_INCREMENT && random.one_in(3) {
+        text = with_increment(&text);
+    }
     let spelled = with_zeros(random, &text);
     if spelled.len() > reference::MOST_BYTES {
         text
@@ -415,8 +491,17 @@ pub fn text(random: &mut Random, lines: usize) -> Vec<u8> {
     }
 }
 
+/// Line 1, with the column of the increment or without.
+pub fn names_1(increment: bool) -> &'static str {
+    if increment {
+        "method,exercised,draw,increment\n"
+    } else {
+        "method,exercised,draw\n"
+    }
+}
+
 /// Line 3, with the column of codes or without.
-pub fn names(coded: bool, form: Form) -> &'static str {
+pub fn names_3(coded: bool, form: Form) -> &'static str {
     match (coded, form) {
         (false, Form::Shorts) => "account,short\n",
         (false, Form::LastNumbers) => "account,last\n",
@@ -426,20 +511,52 @@ pub fn names(coded: bool, form: Form) -> &'static str {
 }
 
 /// Whether line 3 of a text has the column of codes, and its form; neither where it is not exact.
-fn columns(text: &[u8]) -> Option<(bool, Form)> {
+fn of_line_3(text: &[u8]) -> Option<(bool, Form)> {
     let line = text.split_inclusive(|&b| b == 10).nth(2)?;
     let all = FORMS.into_iter().flat_map(|form| [(false, form), (true, form)]);
-    all.into_iter().find(|&(coded, form)| names(coded, form).as_bytes() == line)
+    all.into_iter().find(|&(coded, form)| names_3(coded, form).as_bytes() == line)
+}
+
+/// Whether line 1 of a text has the column of the increment.
+pub fn has_increment(text: &[u8]) -> bool {
+    text.starts_with(names_1(true).as_bytes())
 }
 
 /// Whether line 3 of a text has the column of codes.
 pub fn has_codes(text: &[u8]) -> bool {
-    columns(text).is_some_and(|(coded, _)| coded)
+    of_line_3(text).is_some_and(|(coded, _)| coded)
+}
+
+pub fn columns(text: &[u8]) -> Columns {
+    Columns { increment: has_increment(text), codes: has_codes(text) }
 }
 
 /// The form that line 3 of a text gives.
 pub fn has_form(text: &[u8]) -> Option<Form> {
-    columns(text).map(|(_, form)| form)
+    of_line_3(text).map(|(_, form)| form)
+}
+
+/// A text without the column of the increment with it: 25.
+pub fn with_increment(text: &[u8]) -> Vec<u8> {
+    let mut out = Vec::new();
+    for (i, line) in text.split_inclusive(|&b| b == 10).enumerate() {
+        let (line, end) = line.split_at(line.len() - usize::from(line.ends_with(b"\n")));
+        let column: &[u8] = [&b",increment"[..], b",25", b""][i.min(2)];
+        out.extend([line, column, end].concat());
+    }
+    out
+}
+
+/// A text without its column of the increment.
+pub fn without_increment(text: &[u8]) -> Vec<u8> {
+    let mut out = Vec::new();
+    for (i, line) in text.split_inclusive(|&b| b == 10).enumerate() {
+        match line.iter().rposition(|&b| b == b',') {
+            Some(at) if i < 2 => out.extend([&line[..at], b"\n"].concat()),
+            _ => out.extend(line),
+        }
+    }
+    out
 }
 
 /// A text without the column of codes with it: each code is the account, in its spelling.
@@ -476,10 +593,10 @@ fn with_zeros(random: &mut Random, text: &[u8]) -> Vec<u8> {
             spelled(text, |_, _| width)
         }
         5 => {
-            let coded = has_codes(text);
-            let only =
-                if coded { random.index(FIELDS - WITHOUT_CODE) + WITHOUT_CODE } else { random.index(WITHOUT_CODE) };
-            spelled(text, |i, digits| if field(coded, i) == only { random.between(2, 10) as usize } else { digits })
+            let columns = columns(text);
+            let (terms, position) = columns.of_lines();
+            let only = columns.field(random.index(terms.len() + position.len()));
+            spelled(text, |i, digits| if columns.field(i) == only { random.between(2, 10) as usize } else { digits })
         }
         _ => spelled(text, |_, digits| random.between(digits as u64, 10) as usize),
     }
@@ -503,38 +620,30 @@ fn padded(digits: &[u8], width: usize) -> Vec<u8> {
     [&vec![b'0'; width.saturating_sub(digits.len())], digits].concat()
 }
 
-/// The field of a number by its index among the numbers of a text, which has the column of codes or not.
-pub fn field(coded: bool, index: usize) -> usize {
-    match (coded, index < 2) {
-        (false, true) => index,
-        (false, false) => 2 + index % 2,
-        (true, true) => WITHOUT_CODE + index,
-        (true, false) => WITHOUT_CODE + 2 + (index - 2) % 3,
-    }
-}
-
-/// The texts' fields that are accounts.
-pub fn is_account(field: usize) -> bool {
-    [2, WITHOUT_CODE + 3].contains(&field)
-}
-
-/// A text of one position with the number in the field; the numbers in the others are those of an allocation.
-pub fn in_field(form: Form, field: usize, number: &str) -> Vec<u8> {
-    let mut fields = ["3", "5", "2", "7", "3", "5", "4", "2", "7"];
-    fields[field] = number;
-    let coded = field >= WITHOUT_CODE;
-    let of_text = if coded { &fields[WITHOUT_CODE..] } else { &fields[..WITHOUT_CODE] };
-    let (terms, position) = of_text.split_at(2);
-    let [terms, position] = [terms, position].map(|fields| fields.join(","));
-    format!("method,exercised,draw\nW,{terms}\n{}{position}\n", names(coded, form)).into_bytes()
+/// A text of one position, with the columns, that has the number in the field; the numbers in the others are those of an
+/// allocation.
+pub fn in_field(form: Form, columns: Columns, field: Field, number: &str) -> Vec<u8> {
+    let value = |of: &Field| match of {
+        _ if *of == field => number,
+        Field::Exercised => "3",
+        Field::Draw => "5",
+        Field::Increment => "10",
+        Field::Code => "4",
+        Field::Account => "2",
+        Field::Number => "7",
+    };
+    let line = |fields: &[Field]| fields.iter().map(value).collect::<Vec<_>>().join(",");
+    let (terms, position) = columns.of_lines();
+    let (names_1, names_3) = (names_1(columns.increment), names_3(columns.codes, form));
+    format!("{names_1}W,{}\n{names_3}{}\n", line(terms), line(position)).into_bytes()
 }
 
 /// Whether each field of a text that reads has a number with leading zeros.
 pub fn leading_zeros(text: &[u8]) -> [bool; FIELDS] {
     let mut found = [false; FIELDS];
-    let coded = has_codes(text);
+    let columns = columns(text);
     for (i, (from, to)) in numbers(text).into_iter().enumerate() {
-        found[field(coded, i)] |= to - from > 1 && text[from] == b'0';
+        found[columns.field(i) as usize] |= to - from > 1 && text[from] == b'0';
     }
     found
 }
@@ -553,7 +662,7 @@ pub fn stretched(text: &[u8], length: usize) -> Vec<u8> {
 
 /// A list of 1,024 positions whose text, with S and draw of one digit, has the length; near 32,768.
 pub fn list_of_length(form: Form, length: usize) -> Series {
-    let head = b"method,exercised,draw\nW,1,1\n".len() + names(true, form).len();
+    let head = b"method,exercised,draw\nW,1,1\n".len() + names_3(true, form).len();
     let codes: Vec<u32> = (4_000_000_000..).take(1_024).collect();
     let accounts = codes.iter().rev().map(|code| code - 1_000_000_000).collect();
     let mut left = length - head - 1_024 * b"4000000000,3000000000,\n".len();
@@ -565,12 +674,13 @@ pub fn list_of_length(form: Form, length: usize) -> Series {
     Series { form, codes, accounts, numbers: (1..=1_024).rev().map(digits).collect() }
 }
 
-/// A text of 1,024 positions with codes and leading zeros that has the length, near 32,768; it is allocated if that is
-/// not too long.
+/// A text of 1,024 positions with both columns and leading zeros that has the length, near 32,768; it is allocated if
+/// that is not too long.
 pub fn text_of_length(form: Form, length: usize) -> Vec<u8> {
     let mut list = list_of_length(Form::Shorts, 32_768);
     list.numbers = upward(1_024);
-    let text = reference::write(b'W', 500_000, 77, list.in_form(form).list(), usize::MAX).expect("a text");
+    let terms = Terms::new(b'W', 500_000, 77).by(24);
+    let text = reference::write(terms, list.in_form(form).list(), usize::MAX).expect("a text");
     stretched(&text, length)
 }
 
@@ -650,11 +760,28 @@ fn repeat_account(random: &mut Random, text: &mut Vec<u8>, start: usize, end: us
     }
 }
 
+/// Puts the column of the increment in or takes it out, in line 1 or in lines 1 and 2; or puts a field into line 2, or
+/// another number in the place of the last one there.
+fn other_increment(random: &mut Random, text: &mut Vec<u8>, starts: &[usize]) {
+    let &[_, line_2, line_3, ..] = starts else { return };
+    let column = has_increment(text);
+    let end = line_3 - 1;
+    let last = text[line_2..end].iter().rposition(|&b| b == b',').map_or(end, |at| line_2 + at + 1);
+    let any = random.pick(&INCREMENTS).to_string();
+    let number = random.pick(&["25", "0025", "", "x", " 10", "0000000010", "00000000010", "4294967296", &any]);
+    match random.below(4) {
+        0 => drop(text.splice(..line_2, names_1(!column).bytes())),
+        1 => *text = if column { without_increment(text) } else { with_increment(text) },
+        2 => drop(text.splice(end..end, format!(",{number}").bytes())),
+        _ => drop(text.splice(last..end, number.bytes())),
+    }
+}
+
 /// Puts the column of codes in or takes it out: in line 3, in the whole text from line 3 on, or in the line given.
-fn other_columns(random: &mut Random, text: &mut Vec<u8>, starts: &[usize], line: usize) {
-    let (coded, form) = columns(text).unwrap_or((false, random.pick(&FORMS)));
+fn other_codes(random: &mut Random, text: &mut Vec<u8>, starts: &[usize], line: usize) {
+    let (coded, form) = of_line_3(text).unwrap_or((false, random.pick(&FORMS)));
     match (random.below(3), starts) {
-        (0, &[_, _, from, to, ..]) => drop(text.splice(from..to, names(!coded, form).bytes())),
+        (0, &[_, _, from, to, ..]) => drop(text.splice(from..to, names_3(!coded, form).bytes())),
         (1, _) => *text = if coded { without_codes(text) } else { with_codes(text) },
         _ if coded => {
             let start = starts[line];
@@ -670,10 +797,10 @@ fn other_columns(random: &mut Random, text: &mut Vec<u8>, starts: &[usize], line
 
 /// The text with line 3 of the other form, its numbers as they are; none where line 3 is not exact.
 pub fn read_otherwise(text: &[u8]) -> Option<Vec<u8>> {
-    let (coded, form) = columns(text)?;
+    let (coded, form) = of_line_3(text)?;
     let from = line_starts(text)[2];
     let mut text = text.to_vec();
-    text.splice(from..from + names(coded, form).len(), names(coded, other_form(form)).bytes());
+    text.splice(from..from + names_3(coded, form).len(), names_3(coded, other_form(form)).bytes());
     Some(text)
 }
 
@@ -702,6 +829,14 @@ fn other_last(random: &mut Random, text: &mut Vec<u8>) {
     text.splice(from..to, number.iter().copied());
 }
 
+/// Puts the letter of a method in the place of the first byte of line 2, where there is one.
+pub fn put_method(text: &mut [u8], letter: u8) {
+    let first = line_starts(text).get(1).copied();
+    if let Some(byte) = first.and_then(|at| text.get_mut(at)) {
+        *byte = letter;
+    }
+}
+
 /// Damages a text in one way.
 pub fn damage(random: &mut Random, text: &mut Vec<u8>) {
     let length = text.len();
@@ -709,7 +844,7 @@ pub fn damage(random: &mut Random, text: &mut Vec<u8>) {
     let line = random.index(starts.len());
     let start = starts[line];
     let end = starts.get(line + 1).copied().unwrap_or(length);
-    match random.below(30) {
+    match random.below(33) {
         0..=2 if length > 0 => {
             let at = random.index(length);
             text[at] = byte(random);
@@ -786,14 +921,11 @@ pub fn damage(random: &mut Random, text: &mut Vec<u8>) {
             text[a..b].reverse();
         }
         21 => repeat_account(random, text, start, end),
-        22..=24 => other_columns(random, text, &starts, line),
+        22..=24 => other_codes(random, text, &starts, line),
         25 => *text = read_otherwise(text).unwrap_or_else(|| text.clone()),
         26..=28 => other_last(random, text),
-        _ => {
-            // Another method, known or not.
-            if starts.len() > 1 && starts[1] < length {
-                text[starts[1]] = random.pick(b"WPLRwplr ,X");
-            }
-        }
+        29..=31 => other_increment(random, text, &starts),
+        // Another method, known or not.
+        _ => put_method(text, random.pick(b"WPLRwplr ,X")),
     }
 }

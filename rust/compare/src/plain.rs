@@ -2,7 +2,7 @@
 
 use std::collections::HashSet;
 
-use reference::{Form, List};
+use reference::{Form, List, Terms};
 
 const ONE: u64 = 1_000_000;
 const MOST: u32 = 10_000_000;
@@ -211,18 +211,28 @@ fn judge<N: Numbers>(method: u8, list: List, room: usize) -> Result<u32, u32> {
 
 /// Judges a call; `assign` has the amounts that need its draw. T and the further number, or a refusal.
 fn judged<N: Numbers>(
-    (method, list, numbers): (u8, List, N),
-    exercised: u32,
-    draw: u32,
+    terms: Terms,
+    list: List,
+    numbers: N,
     amounts: &mut [u32],
-    assign: impl FnOnce(N, u32, u32, u32, &mut [u32]) -> u32,
+    assign: impl FnOnce(Terms, N, u32, &mut [u32]) -> u32,
 ) -> Result<(u32, u32), u32> {
+    let Terms { method, exercised, draw, increment } = terms;
     let total = judge::<N>(method, list, amounts.len())?;
     if exercised == 0 {
         return Err(8);
     }
     if exercised > total {
         return Err(9);
+    }
+    if method == b'W' {
+        if increment == 0 || increment > 1_000 {
+            return Err(23);
+        }
+        // T1 is above 1,000,000.
+        if exercised < total && exercised > increment * 1_000_000 {
+            return Err(24);
+        }
     }
     let amounts = &mut amounts[..numbers.len()];
     if method != b'P' {
@@ -241,82 +251,63 @@ fn judged<N: Numbers>(
             return Err(10);
         }
     }
-    Ok((total, assign(numbers, total, exercised, draw, amounts)))
+    Ok((total, assign(terms, numbers, total, amounts)))
 }
 
-fn by_method<N: Numbers>(
-    method: u8,
-    list: List,
-    numbers: N,
-    exercised: u32,
-    draw: u32,
-    amounts: &mut [u32],
-) -> Result<(u32, u32), u32> {
-    let call = (method, list, numbers);
-    match method {
-        b'W' => judged(call, exercised, draw, amounts, wheel),
-        b'P' => judged(call, exercised, draw, amounts, pro_rata),
-        b'L' => judged(call, exercised, draw, amounts, lottery),
-        b'R' => judged(call, exercised, draw, amounts, remainder_draw),
+fn by_method<N: Numbers>(terms: Terms, list: List, numbers: N, amounts: &mut [u32]) -> Result<(u32, u32), u32> {
+    match terms.method {
+        b'W' => judged(terms, list, numbers, amounts, wheel),
+        b'P' => judged(terms, list, numbers, amounts, pro_rata),
+        b'L' => judged(terms, list, numbers, amounts, lottery),
+        b'R' => judged(terms, list, numbers, amounts, remainder_draw),
         _ => Err(14),
     }
 }
 
 /// T and the further number, or a refusal.
-pub fn allocate(method: u8, list: List, exercised: u32, draw: u32, amounts: &mut [u32]) -> Result<(u32, u32), u32> {
+pub fn allocate(terms: Terms, list: List, amounts: &mut [u32]) -> Result<(u32, u32), u32> {
     match list.form {
-        Form::Shorts => by_method(method, list, Shorts(list.numbers), exercised, draw, amounts),
-        Form::LastNumbers => by_method(method, list, LastNumbers(list.numbers), exercised, draw, amounts),
+        Form::Shorts => by_method(terms, list, Shorts(list.numbers), amounts),
+        Form::LastNumbers => by_method(terms, list, LastNumbers(list.numbers), amounts),
     }
 }
 
 /// As `allocate` for the wheel, with one division for each position and no walk over the blocks.
-pub fn allocate_wheel_by_division(
-    list: List,
-    exercised: u32,
-    draw: u32,
-    amounts: &mut [u32],
-) -> Result<(u32, u32), u32> {
+pub fn allocate_wheel_by_division(terms: Terms, list: List, amounts: &mut [u32]) -> Result<(u32, u32), u32> {
+    let terms = Terms { method: b'W', ..terms };
     match list.form {
-        Form::Shorts => judged((b'W', list, Shorts(list.numbers)), exercised, draw, amounts, wheel_by_division),
-        Form::LastNumbers => {
-            judged((b'W', list, LastNumbers(list.numbers)), exercised, draw, amounts, wheel_by_division)
-        }
+        Form::Shorts => judged(terms, list, Shorts(list.numbers), amounts, wheel_by_division),
+        Form::LastNumbers => judged(terms, list, LastNumbers(list.numbers), amounts, wheel_by_division),
     }
 }
 
 /// As `allocate` for pro rata, with the cut-off found as the library finds it: by bisection, a count over the decimal
 /// parts for each step.
-pub fn allocate_pro_rata_by_bisection(
-    list: List,
-    exercised: u32,
-    draw: u32,
-    amounts: &mut [u32],
-) -> Result<(u32, u32), u32> {
+pub fn allocate_pro_rata_by_bisection(terms: Terms, list: List, amounts: &mut [u32]) -> Result<(u32, u32), u32> {
+    let terms = Terms { method: b'P', ..terms };
     match list.form {
-        Form::Shorts => judged((b'P', list, Shorts(list.numbers)), exercised, draw, amounts, pro_rata_by_bisection),
-        Form::LastNumbers => {
-            judged((b'P', list, LastNumbers(list.numbers)), exercised, draw, amounts, pro_rata_by_bisection)
-        }
+        Form::Shorts => judged(terms, list, Shorts(list.numbers), amounts, pro_rata_by_bisection),
+        Form::LastNumbers => judged(terms, list, LastNumbers(list.numbers), amounts, pro_rata_by_bisection),
     }
 }
 
-fn interval(total: u32, blocks: u32) -> u64 {
+fn interval(total: u32, blocks: u32, increment: u32) -> u64 {
     let rounded = (2 * u64::from(total) * ONE + u64::from(blocks)) / (2 * u64::from(blocks));
-    rounded.saturating_sub(25 * ONE)
+    rounded.saturating_sub(u64::from(increment) * ONE)
 }
 
 /// One walk over blocks and positions.
-fn wheel<N: Numbers>(numbers: N, total: u32, exercised: u32, draw: u32, amounts: &mut [u32]) -> u32 {
-    let blocks = exercised.div_ceil(25);
-    let interval = interval(total, blocks);
+fn wheel<N: Numbers>(terms: Terms, numbers: N, total: u32, amounts: &mut [u32]) -> u32 {
+    let Terms { exercised, draw, increment, .. } = terms;
+    let blocks = exercised.div_ceil(increment);
+    let interval = interval(total, blocks, increment);
     let (whole, part) = ((interval / ONE) as u32, (interval % ONE) as u32);
     amounts.fill(0);
     let (mut position, mut here) = numbers.find(draw);
     let mut reserve = 0;
     let mut left = exercised;
     loop {
-        let mut size = left.min(25);
+        let mut size = left.min(increment);
         left -= size;
         while size >= here {
             amounts[position] += here;
@@ -350,15 +341,17 @@ fn wheel<N: Numbers>(numbers: N, total: u32, exercised: u32, draw: u32, amounts:
     }
 }
 
-fn wheel_by_division<N: Numbers>(numbers: N, total: u32, exercised: u32, draw: u32, amounts: &mut [u32]) -> u32 {
-    let blocks = exercised.div_ceil(25);
-    let pace = 25 * ONE + interval(total, blocks);
+fn wheel_by_division<N: Numbers>(terms: Terms, numbers: N, total: u32, amounts: &mut [u32]) -> u32 {
+    let Terms { exercised, draw, .. } = terms;
+    let blocks = exercised.div_ceil(terms.increment);
+    let increment = u64::from(terms.increment);
+    let pace = increment * ONE + interval(total, blocks, terms.increment);
     // How many of the first x contracts from the starting place are in blocks. Block j (from 0)
     // begins after the whole part of j × pace / ONE.
     let marked = |x: u64| -> u32 {
         let j = ((x + 1) * ONE - 1) / pace;
         let into = x - j * pace / ONE;
-        (j * 25 + into.min(25)).min(u64::from(exercised)) as u32
+        (j * increment + into.min(increment)).min(u64::from(exercised)) as u32
     };
     let (first, here) = numbers.find(draw);
     let mut walked = u64::from(here);
@@ -375,7 +368,8 @@ fn wheel_by_division<N: Numbers>(numbers: N, total: u32, exercised: u32, draw: u
 }
 
 /// Round one, then the decimal part at which the remainder runs out, then one walk.
-fn pro_rata<N: Numbers>(numbers: N, total: u32, exercised: u32, draw: u32, amounts: &mut [u32]) -> u32 {
+fn pro_rata<N: Numbers>(terms: Terms, numbers: N, total: u32, amounts: &mut [u32]) -> u32 {
+    let Terms { exercised, draw, .. } = terms;
     let count = numbers.len();
     if count <= 64 {
         let (mut decimals, mut ranked) = ([0; 64], [0; 64]);
@@ -444,29 +438,22 @@ fn cut_off(decimals: &[u32], remaining: u32) -> (u32, u32, u32) {
 }
 
 /// A short list has a short room for its decimal parts.
-fn pro_rata_by_bisection<N: Numbers>(numbers: N, total: u32, exercised: u32, draw: u32, amounts: &mut [u32]) -> u32 {
+fn pro_rata_by_bisection<N: Numbers>(terms: Terms, numbers: N, total: u32, amounts: &mut [u32]) -> u32 {
     let count = numbers.len();
     if count <= 128 {
         let mut decimals = [0; 128];
-        both_rounds(numbers, total, exercised, draw, amounts, &mut decimals[..count])
+        both_rounds(terms, numbers, total, amounts, &mut decimals[..count])
     } else {
         let mut decimals = [0; 4_096];
-        both_rounds(numbers, total, exercised, draw, amounts, &mut decimals[..count])
+        both_rounds(terms, numbers, total, amounts, &mut decimals[..count])
     }
 }
 
-fn both_rounds<N: Numbers>(
-    numbers: N,
-    total: u32,
-    exercised: u32,
-    draw: u32,
-    amounts: &mut [u32],
-    decimals: &mut [u32],
-) -> u32 {
-    let remaining = round_one(numbers, total, exercised, amounts, decimals);
+fn both_rounds<N: Numbers>(terms: Terms, numbers: N, total: u32, amounts: &mut [u32], decimals: &mut [u32]) -> u32 {
+    let remaining = round_one(numbers, total, terms.exercised, amounts, decimals);
     if remaining > 0 {
         let (last, equal, left) = cut_off_by_bisection(decimals, remaining);
-        round_two(amounts, decimals, last, equal, left, draw);
+        round_two(amounts, decimals, last, equal, left, terms.draw);
     }
     remaining
 }
@@ -502,19 +489,28 @@ fn round_two(amounts: &mut [u32], decimals: &[u32], last: u32, equal: u32, serve
     }
 }
 
-fn lottery<N: Numbers>(numbers: N, total: u32, exercised: u32, draw: u32, amounts: &mut [u32]) -> u32 {
-    let start = (u64::from(draw) * u64::from(total)).div_ceil(10_000) as u32;
-    numbers.run(total, exercised, start, amounts);
+fn lottery<N: Numbers>(terms: Terms, numbers: N, total: u32, amounts: &mut [u32]) -> u32 {
+    let start = (u64::from(terms.draw) * u64::from(total)).div_ceil(10_000) as u32;
+    numbers.run(total, terms.exercised, start, amounts);
     start
 }
 
-fn remainder_draw<N: Numbers>(numbers: N, total: u32, exercised: u32, draw: u32, amounts: &mut [u32]) -> u32 {
-    let start = draw % total + 1;
-    numbers.run(total, exercised, start, amounts);
+fn remainder_draw<N: Numbers>(terms: Terms, numbers: N, total: u32, amounts: &mut [u32]) -> u32 {
+    let start = terms.draw % total + 1;
+    numbers.run(total, terms.exercised, start, amounts);
     start
 }
 
-const NAMES_1: &[u8] = b"method,exercised,draw\n";
+/// The increment of a text without the column.
+const DEFAULT_INCREMENT: u32 = 25;
+
+/// Line 1 without the column of the increment, and with it.
+const NAMES_1: [&[u8]; 2] = [b"method,exercised,draw\n", b"method,exercised,draw,increment\n"];
+
+fn names_1(increment: u32) -> &'static [u8] {
+    NAMES_1[usize::from(increment != DEFAULT_INCREMENT)]
+}
+
 const COLUMNS: [(bool, Form, &[u8]); 4] = [
     (false, Form::Shorts, b"account,short\n"),
     (true, Form::Shorts, b"code,account,short\n"),
@@ -571,26 +567,18 @@ fn positions<const CODES: bool>(lines: &[u8], mut see: impl FnMut(usize, Line)) 
     Ok(count)
 }
 
-/// What a text has beside its positions.
+/// What a text has beside its positions, and how many these are.
 #[derive(Clone, Copy, Debug, PartialEq)]
-pub struct Terms {
-    pub method: u8,
-    pub exercised: u32,
-    pub draw: u32,
+pub struct Head {
+    pub terms: Terms,
     pub form: Form,
     pub count: usize,
 }
 
-/// The terms without the number of positions, whether there is a column of codes, and the position lines.
+/// Line 2, which has the column of the increment or not.
 #[inline]
-fn head(text: &[u8]) -> Result<(Terms, bool, &[u8]), u32> {
-    if text.len() > 32_768 {
-        return Err(11);
-    }
-    let rest = text.strip_prefix(NAMES_1).ok_or(12u32)?;
-    let line_end = rest.iter().position(|&b| b == 10).ok_or(13u32)?;
-    let line = &rest[..=line_end];
-    if line.iter().filter(|&&b| b == b',').count() != 2 {
+fn line_2(line: &[u8], increments: bool) -> Result<Terms, u32> {
+    if line.iter().filter(|&&b| b == b',').count() != 2 + usize::from(increments) {
         return Err(13);
     }
     let method = line[0];
@@ -598,26 +586,40 @@ fn head(text: &[u8]) -> Result<(Terms, bool, &[u8]), u32> {
         return Err(14);
     }
     let (exercised, at) = number(line, 2, b',').ok_or(13u32)?;
-    let (draw, _) = number(line, at, b'\n').ok_or(13u32)?;
+    let (draw, at) = number(line, at, if increments { b',' } else { b'\n' }).ok_or(13u32)?;
+    let increment = if increments { number(line, at, b'\n').ok_or(13u32)?.0 } else { DEFAULT_INCREMENT };
+    Ok(Terms { method, exercised, draw, increment })
+}
+
+/// The head without the number of positions, whether there is a column of codes, and the position lines.
+#[inline]
+fn head(text: &[u8]) -> Result<(Head, bool, &[u8]), u32> {
+    if text.len() > 32_768 {
+        return Err(11);
+    }
+    let [short, long] = NAMES_1.map(|names| text.strip_prefix(names));
+    let rest = short.or(long).ok_or(12u32)?;
+    let line_end = rest.iter().position(|&b| b == 10).ok_or(13u32)?;
+    let terms = line_2(&rest[..=line_end], long.is_some())?;
     let rest = &rest[line_end + 1..];
     let found = COLUMNS.iter().find_map(|&(coded, form, names)| Some((coded, form, rest.strip_prefix(names)?)));
     let (coded, form, lines) = found.ok_or(12u32)?;
-    Ok((Terms { method, exercised, draw, form, count: 0 }, coded, lines))
+    Ok((Head { terms, form, count: 0 }, coded, lines))
 }
 
 /// Reads a text; `see` is handed the index and the line of each position.
 #[inline]
-fn parse(text: &[u8], see: impl FnMut(usize, Line)) -> Result<Terms, u32> {
-    let (terms, coded, lines) = head(text)?;
+fn parse(text: &[u8], see: impl FnMut(usize, Line)) -> Result<Head, u32> {
+    let (head, coded, lines) = head(text)?;
     let count = if coded { positions::<true>(lines, see)? } else { positions::<false>(lines, see)? };
-    Ok(Terms { count, ..terms })
+    Ok(Head { count, ..head })
 }
 
-/// The terms of a text, or a refusal.
-pub fn read(text: &[u8], codes: &mut [u32], accounts: &mut [u32], numbers: &mut [u32]) -> Result<Terms, u32> {
+/// The head of a text, or a refusal.
+pub fn read(text: &[u8], codes: &mut [u32], accounts: &mut [u32], numbers: &mut [u32]) -> Result<Head, u32> {
     let mut found = [[0; 3]; 1_024];
-    let terms = parse(text, |at, line| found[at] = line.values)?;
-    let count = terms.count;
+    let head = parse(text, |at, line| found[at] = line.values)?;
+    let count = head.count;
     if codes.len().min(accounts.len()).min(numbers.len()) < count {
         return Err(4);
     }
@@ -625,7 +627,7 @@ pub fn read(text: &[u8], codes: &mut [u32], accounts: &mut [u32], numbers: &mut 
     for (((code, account), number), from) in lists.zip(&found[..count]) {
         [*code, *account, *number] = *from;
     }
-    Ok(terms)
+    Ok(head)
 }
 
 fn digits(n: u32) -> usize {
@@ -651,23 +653,31 @@ fn put_bytes(text: &mut [u8], at: usize, bytes: &[u8]) -> usize {
     at + bytes.len()
 }
 
-fn head_length(exercised: u32, draw: u32, names_3: &[u8]) -> usize {
-    NAMES_1.len() + 4 + digits(exercised) + digits(draw) + names_3.len()
+fn head_length(terms: Terms, names_3: &[u8]) -> usize {
+    let Terms { exercised, draw, increment, .. } = terms;
+    let column = if increment == DEFAULT_INCREMENT { 0 } else { digits(increment) + 1 };
+    names_1(increment).len() + 4 + digits(exercised) + digits(draw) + column + names_3.len()
 }
 
 /// Lines 1 to 3.
-fn put_head(text: &mut [u8], method: u8, exercised: u32, draw: u32, names_3: &[u8]) -> usize {
-    let mut at = put_bytes(text, 0, NAMES_1);
+fn put_head(text: &mut [u8], terms: Terms, names_3: &[u8]) -> usize {
+    let Terms { method, exercised, draw, increment } = terms;
+    let mut at = put_bytes(text, 0, names_1(increment));
     at = put_bytes(text, at, &[method, b',']);
     at = put(text, at, exercised, b',');
-    at = put(text, at, draw, b'\n');
+    if increment == DEFAULT_INCREMENT {
+        at = put(text, at, draw, b'\n');
+    } else {
+        at = put(text, at, draw, b',');
+        at = put(text, at, increment, b'\n');
+    }
     put_bytes(text, at, names_3)
 }
 
 /// The length of the text, or a refusal.
-pub fn write(method: u8, exercised: u32, draw: u32, list: List, text: &mut [u8]) -> Result<usize, u32> {
+pub fn write(terms: Terms, list: List, text: &mut [u8]) -> Result<usize, u32> {
     let List { form, codes, accounts, numbers } = list;
-    if !known(method) {
+    if !known(terms.method) {
         return Err(14);
     }
     if accounts.len() != numbers.len() || codes.len() != numbers.len() {
@@ -678,7 +688,7 @@ pub fn write(method: u8, exercised: u32, draw: u32, list: List, text: &mut [u8])
     }
     let coded = codes != accounts;
     let names_3 = names_3(coded, form);
-    let mut length = head_length(exercised, draw, names_3);
+    let mut length = head_length(terms, names_3);
     length += accounts.iter().zip(numbers).map(|(&a, &n)| digits(a) + digits(n) + 2).sum::<usize>();
     if coded {
         length += codes.iter().map(|&code| digits(code) + 1).sum::<usize>();
@@ -689,7 +699,7 @@ pub fn write(method: u8, exercised: u32, draw: u32, list: List, text: &mut [u8])
     if text.len() < length {
         return Err(4);
     }
-    let mut at = put_head(text, method, exercised, draw, names_3);
+    let mut at = put_head(text, terms, names_3);
     for ((&code, &account), &number) in codes.iter().zip(accounts).zip(numbers) {
         if coded {
             at = put(text, at, code, b',');
@@ -701,8 +711,8 @@ pub fn write(method: u8, exercised: u32, draw: u32, list: List, text: &mut [u8])
 }
 
 /// Judges the list of a text, and turns its numbers into those of the other form, which is handed back.
-fn turn(terms: Terms, codes: &[u32], accounts: &[u32], numbers: &mut [u32]) -> Result<Form, u32> {
-    let Terms { method, form, count, .. } = terms;
+fn turn(head: Head, codes: &[u32], accounts: &[u32], numbers: &mut [u32]) -> Result<Form, u32> {
+    let Head { terms: Terms { method, .. }, form, count } = head;
     let list = List { form, codes, accounts, numbers };
     let mut before = 0;
     match form {
@@ -727,11 +737,11 @@ fn turn(terms: Terms, codes: &[u32], accounts: &[u32], numbers: &mut [u32]) -> R
 /// The length of the changed text, or a refusal: reads, judges, turns and writes.
 pub fn change(text: &[u8], output: &mut [u8]) -> Result<usize, u32> {
     let [mut codes, mut accounts, mut numbers] = [[0; 1_024]; 3];
-    let terms = parse(text, |at, line| [codes[at], accounts[at], numbers[at]] = line.values)?;
-    let Terms { method, exercised, draw, count, .. } = terms;
+    let head = parse(text, |at, line| [codes[at], accounts[at], numbers[at]] = line.values)?;
+    let count = head.count;
     let (codes, accounts, numbers) = (&codes[..count], &accounts[..count], &mut numbers[..count]);
-    let form = turn(terms, codes, accounts, numbers)?;
-    write(method, exercised, draw, List { form, codes, accounts, numbers }, output)
+    let form = turn(head, codes, accounts, numbers)?;
+    write(head.terms, List { form, codes, accounts, numbers }, output)
 }
 
 /// As `change`, but where the columns stay and no code or account begins with 0, both are copied from the text.
@@ -739,7 +749,7 @@ pub fn change_by_copying(text: &[u8], output: &mut [u8]) -> Result<usize, u32> {
     let [mut codes, mut accounts, mut numbers] = [[0; 1_024]; 3];
     let mut kept = [(0, 0); 1_024];
     let mut zeros = false;
-    let (terms, coded, lines) = head(text)?;
+    let (head, coded, lines) = head(text)?;
     let see = |at: usize, line: Line| {
         [codes[at], accounts[at], numbers[at]] = line.values;
         let [from, middle, to] = line.starts;
@@ -747,19 +757,19 @@ pub fn change_by_copying(text: &[u8], output: &mut [u8]) -> Result<usize, u32> {
         zeros |= lines[from] == b'0' || lines[middle] == b'0';
     };
     let count = if coded { positions::<true>(lines, see)? } else { positions::<false>(lines, see)? };
-    let Terms { method, exercised, draw, .. } = terms;
+    let terms = head.terms;
     let (codes, accounts, numbers) = (&codes[..count], &accounts[..count], &mut numbers[..count]);
-    let form = turn(Terms { count, ..terms }, codes, accounts, numbers)?;
+    let form = turn(Head { count, ..head }, codes, accounts, numbers)?;
     if zeros || coded != (codes != accounts) {
-        return write(method, exercised, draw, List { form, codes, accounts, numbers }, output);
+        return write(terms, List { form, codes, accounts, numbers }, output);
     }
     let names_3 = names_3(coded, form);
     let of_lines = kept.iter().zip(&*numbers).map(|(&(from, to), &number)| usize::from(to - from) + digits(number) + 1);
-    let length = head_length(exercised, draw, names_3) + of_lines.sum::<usize>();
+    let length = head_length(terms, names_3) + of_lines.sum::<usize>();
     if output.len() < length {
         return Err(4);
     }
-    let mut at = put_head(output, method, exercised, draw, names_3);
+    let mut at = put_head(output, terms, names_3);
     for (&(from, to), &number) in kept.iter().zip(&*numbers) {
         at = put_bytes(output, at, &lines[usize::from(from)..usize::from(to)]);
         at = put(output, at, number, b'\n');
@@ -788,11 +798,10 @@ fn each_range(list: List, mut see: impl FnMut(u32, u32, u32)) {
 /// The length of what is printed for a text, or 4.
 pub fn respond(text: &[u8], output: &mut [u8]) -> Result<usize, u32> {
     let [mut codes, mut accounts, mut numbers, mut amounts] = [[0; 1_024]; 4];
-    let answer = read(text, &mut codes, &mut accounts, &mut numbers).and_then(|terms| {
-        let Terms { method, exercised, draw, form, count } = terms;
+    let answer = read(text, &mut codes, &mut accounts, &mut numbers).and_then(|Head { terms, form, count }| {
         let list = List { form, codes: &codes[..count], accounts: &accounts[..count], numbers: &numbers[..count] };
-        let (total, _) = allocate(method, list, exercised, draw, &mut amounts[..count])?;
-        Ok((method, total, list))
+        let (total, _) = allocate(terms, list, &mut amounts[..count])?;
+        Ok((terms.method, total, list))
     });
     let (method, total, list) = match answer {
         Ok(found) => found,

@@ -71,7 +71,7 @@ fn a_file_that_cannot_be_read() {
 
 #[test]
 fn a_text_on_standard_input() {
-    for name in ["wheel", "pro-rata", "lottery", "remainder-draw", "codes", "last-numbers"] {
+    for name in ["wheel", "pro-rata", "lottery", "remainder-draw", "codes", "last-numbers", "tens"] {
         let text = example(&format!("{name}.txt"));
         let expected = (Some(0), amounts(&text).expect(name), String::new());
         assert_eq!(book_from_file(&text, "/dev/stdin"), expected, "{name}");
@@ -85,7 +85,7 @@ fn a_text_on_standard_input() {
 // A text that was cut off is booked only where what came is a series of its own, and then with that one's amounts.
 #[test]
 fn a_text_that_was_cut_off() {
-    for name in ["lottery.txt", "last-numbers.txt", "codes.txt", "remainder-draw.txt"] {
+    for name in ["lottery.txt", "last-numbers.txt", "codes.txt", "remainder-draw.txt", "tens.txt"] {
         let text = example(name);
         let mut booked = 0;
         for cut in (0..text.len()).map(|end| &text[..end]) {
@@ -97,7 +97,7 @@ fn a_text_that_was_cut_off() {
             booked += usize::from(status == Some(0));
         }
         let expected = match name {
-            "codes.txt" => 1,
+            "codes.txt" | "tens.txt" => 1,
             "remainder-draw.txt" => 8,
             _ => 3,
         };

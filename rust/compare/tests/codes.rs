@@ -1,10 +1,11 @@
 // Codes and accounts: long lists in which accounts differ or one stands twice, faults at one position, and codes that
 // nobody looks at.
 
+use compare::library;
 use compare::make::{self, Series};
 use compare::random::Random;
-use compare::{library_form, Count, List};
-use dilbreth::{Form, Method};
+use compare::{library_form, Count, List, Terms, DEFAULT_INCREMENT};
+use dilbreth::Method;
 
 const MOST: u32 = 10_000_000;
 
@@ -33,9 +34,10 @@ fn orders(random: &mut Random, count: usize) -> Vec<(&'static str, Vec<u32>)> {
 fn last_account(count: &mut Count, random: &mut Random, what: &str, series: &Series) {
     let length = series.numbers.len();
     let total = series.total() as u32;
+    let increment = random.pick(&[DEFAULT_INCREMENT, 1, 10, 1_000]);
     let mut met = |series: &Series, exercised: u32, expected: u32| {
         let draw = if exercised < total { 1 } else { 0 };
-        let found = count.allocate(b'W', series.list(), exercised, draw, length);
+        let found = count.allocate(Terms::new(b'W', exercised, draw).by(increment), series.list(), length);
         assert_eq!(found, expected, "{length} accounts {what}");
     };
     met(series, total, 0);
@@ -67,7 +69,7 @@ fn long_lists() {
             let series = Series::coded(make::rising(&mut random, length), accounts, shorts);
             last_account(&mut count, &mut random, what, &series);
             for method in *b"PLR" {
-                count.allocate(method, series.list(), 1, 1, length);
+                count.allocate(Terms::new(method, 1, 1), series.list(), length);
             }
         }
     }
@@ -94,7 +96,7 @@ fn every_pair_of_positions() {
             for (i, j) in pairs {
                 let mut twice = series.clone();
                 twice.accounts[j] = series.accounts[i];
-                let found = count.allocate(b'W', twice.list(), 1, 1, length);
+                let found = count.allocate(Terms::new(b'W', 1, 1), twice.list(), length);
                 assert_eq!(found, 19, "{i} and {j} of {length} accounts {what}");
             }
         }
@@ -121,16 +123,20 @@ fn all_faults_of_one_position() {
                     list.numbers.truncate(at + 1);
                     (list.codes[at], list.accounts[at], list.numbers[at]) = (code, account, short);
                     let expected = [of_code, of_account, of_short].into_iter().find(|&n| n > 0).unwrap_or(0);
-                    assert_eq!(count.allocate(b'W', list.list(), 1, 1, 4), expected, "{list:?}");
+                    let terms = Terms::new(b'W', 1, 1);
+                    assert_eq!(count.allocate(terms, list.list(), 4), expected, "{list:?}");
+                    // An increment that is refused comes after them.
+                    let with_increment = if expected == 0 { 23 } else { expected };
+                    assert_eq!(count.allocate(terms.by(0), list.list(), 4), with_increment, "{list:?}");
                     for method in *b"PLR" {
-                        count.allocate(method, list.list(), 1, 1, 4);
+                        count.allocate(Terms { method, ..terms }, list.list(), 4);
                     }
                 }
             }
         }
     }
     count.print();
-    assert!(!count.met([0, 5, 6, 7, 19]).contains(&0));
+    assert!(!count.met([0, 5, 6, 7, 19, 23]).contains(&0));
 }
 
 // Codes of any length and value under P, L and R; under W another length is 1, whatever else is wrong.
@@ -146,16 +152,16 @@ fn codes_that_nobody_looks_at() {
                 let codes = vec![code; length];
                 let list = List { codes: &codes, ..series.list() };
                 for method in *b"PLR" {
-                    assert_eq!(count.allocate(method, list, total / 3 + 1, 5, positions), 0);
-                    assert_eq!(count.allocate(method, list, total, 5, positions), 0);
+                    assert_eq!(count.allocate(Terms::new(method, total / 3 + 1, 5), list, positions), 0);
+                    assert_eq!(count.allocate(Terms::new(method, total, 5), list, positions), 0);
                 }
                 if length != positions {
-                    assert_eq!(count.allocate(b'W', list, 0, 0, 0), 1);
+                    assert_eq!(count.allocate(Terms::new(b'W', 0, 0), list, 0), 1);
                     for method in *b"PR" {
-                        assert!(!count.case(compare::write(method, 1, 1, list, 60_000)));
+                        assert!(!count.case(compare::write(Terms::new(method, 1, 1), list, 60_000)));
                     }
                 }
-                count.allocate(b'W', list, 1, 1, positions);
+                count.allocate(Terms::new(b'W', 1, 1), list, positions);
             }
         }
     }
@@ -171,19 +177,13 @@ fn amounts_are_those_of_the_shorts() {
         for _ in 0..12 {
             let series = make::series(&mut random, positions, 25 * positions as u64, false);
             let total = series.total();
-            let (exercised, draw) = (random.between(1, total) as u32, random.between(1, total) as u32);
-            let of_list = |series: &Series| {
-                let mut amounts = vec![0; positions];
-                let Series { codes, accounts, numbers, .. } = series;
-                let out = &mut amounts;
-                let found =
-                    dilbreth::allocate(Method::Wheel, Form::Shorts, codes, accounts, numbers, exercised, draw, out);
-                (found.expect("an allocation"), amounts)
-            };
-            let expected = of_list(&series);
+            let [exercised, draw] = [(); 2].map(|_| random.between(1, total) as u32);
+            let terms = Terms::new(b'W', exercised, draw).by(random.spread(1_000) as u32);
+            let expected = library::allocate(terms, 0, &series);
+            assert_eq!(expected.0, 0);
             for (what, accounts) in orders(&mut random, positions) {
                 let other = Series { codes: make::rising(&mut random, positions), accounts, ..series.clone() };
-                assert_eq!(of_list(&other), expected, "{positions} accounts {what}");
+                assert_eq!(library::allocate(terms, 0, &other), expected, "{positions} accounts {what}");
                 lists += 1;
             }
         }
@@ -191,7 +191,8 @@ fn amounts_are_those_of_the_shorts() {
     println!("codes, amounts of the shorts: {lists} lists");
 }
 
-// What the library writes it reads as the same series, without the codes exactly where they are the accounts.
+// What the library writes it reads as the same series, without the codes exactly where they are the accounts, with any
+// increment.
 #[test]
 fn round_trips() {
     let mut random = Random::new(0xC0DE_0005);
@@ -213,17 +214,20 @@ fn round_trips() {
 }
 
 fn written(s: &reference::Series) -> Vec<u8> {
-    let (method, form) = (Method::from_byte(s.method).expect("a method"), library_form(s.form));
+    let Terms { method, exercised, draw, increment } = s.terms;
+    let (method, form) = (Method::from_byte(method).expect("a method"), library_form(s.form));
     let mut text = vec![0; 32_768];
-    let length = dilbreth::write(method, s.exercised, s.draw, form, &s.codes, &s.accounts, &s.numbers, &mut text);
+    let out = &mut text;
+    let length = dilbreth::write(method, exercised, draw, increment, form, &s.codes, &s.accounts, &s.numbers, out);
     text.truncate(length.expect("a text"));
     text
 }
 
 fn same_series(text: &[u8], s: &reference::Series) {
     let [mut codes, mut accounts, mut numbers] = [(); 3].map(|_| vec![0; s.numbers.len()]);
-    let terms = dilbreth::read(text, &mut codes, &mut accounts, &mut numbers).expect("a series");
-    assert_eq!((terms.method.byte(), terms.exercised, terms.draw), (s.method, s.exercised, s.draw));
-    assert_eq!((terms.form, terms.positions), (library_form(s.form), s.numbers.len()));
+    let dilbreth::Terms { method, exercised, draw, increment, form, positions } =
+        dilbreth::read(text, &mut codes, &mut accounts, &mut numbers).expect("a series");
+    assert_eq!(Terms { method: method.byte(), exercised, draw, increment }, s.terms);
+    assert_eq!((form, positions), (library_form(s.form), s.numbers.len()));
     assert_eq!((&codes, &accounts, &numbers), (&s.codes, &s.accounts, &s.numbers));
 }

@@ -7,7 +7,7 @@ use std::collections::BTreeSet;
 
 use compare::make::{self, Series};
 use compare::random::Random;
-use compare::{cases, Count};
+use compare::{cases, Count, Terms};
 use dilbreth::{Allocated, Form, Method};
 
 const MOST: u64 = 10_000_000;
@@ -112,7 +112,7 @@ impl Cases {
         let shares = shares(list, exercised);
         let remaining = exercised - shares.iter().map(|share| share.0).sum::<u32>();
         let show = |draw: u32, shown: String| {
-            let case = cases::allocate(b'P', list.list(), exercised, draw, list.accounts.len());
+            let case = cases::allocate(Terms::new(b'P', exercised, draw), list.list(), list.accounts.len());
             format!("{case}\n  {shown}")
         };
         let cut_off = match cut_off(list, exercised, &shares, remaining) {
@@ -129,11 +129,12 @@ impl Cases {
             let wanted = Ok(Allocated { total: list.total() as u32, further: remaining });
             let mut amounts = vec![u32::MAX; list.numbers.len()];
             let (Series { codes, accounts, numbers, .. }, out) = (list, &mut amounts);
-            let found =
-                dilbreth::allocate(Method::ProRata, Form::Shorts, codes, accounts, numbers, exercised, draw, out);
+            let (method, form, increment) = (Method::ProRata, Form::Shorts, make::increment(&mut self.random));
+            let found = dilbreth::allocate(method, exercised, draw, increment, form, codes, accounts, numbers, out);
             let differs = expected.iter().zip(&amounts).position(|(a, b)| a != b);
             self.count.case(if found == wanted && differs.is_none() {
-                compare::allocate(b'P', list.list(), exercised, draw, list.accounts.len()).map(|number| number == 0)
+                let terms = Terms::new(b'P', exercised, draw);
+                compare::allocate(terms, list.list(), list.accounts.len()).map(|number| number == 0)
             } else {
                 let by = format!("by {cut_off:?}: expected {wanted:?}, found {found:?}; amounts differ at {differs:?}");
                 Err(show(draw, by))
@@ -197,8 +198,8 @@ fn all_sizes() {
         let most = positions.max(random.spread(MOST));
         let exact = random.one_in(3);
         let list = make::series(random, positions as usize, most, exact);
-        let (exercised, draw) = make::terms(random, b'P', list.numbers.len(), list.total());
-        cases.series(&list, exercised.clamp(1, list.total() as u32), &[draw]);
+        let terms = make::terms(random, b'P', list.numbers.len(), list.total());
+        cases.series(&list, terms.exercised.clamp(1, list.total() as u32), &[terms.draw]);
     }
     cases.end([true; 5]);
 }

@@ -80,6 +80,14 @@ fn the_first_allocation() {
     assert_eq!(String::from_utf8(found.stdout).unwrap(), example("lottery.out"));
 }
 
+// README shows the two lines that have the increment.
+#[test]
+fn the_lines_with_the_increment() {
+    let shown = blocks(README).remove(3);
+    assert_eq!(shown.len(), 2);
+    assert!(example("tens.txt").starts_with(&(shown.join("\n") + "\naccount,short\n")));
+}
+
 #[test]
 fn the_change_prints_the_first_text() {
     let found = ChangeForm.run(example("last-numbers.txt").as_bytes(), Feed::File);
@@ -140,32 +148,40 @@ fn the_methods_of_the_readme() {
         let (exercised, draw) = terms.split_once("; draw ").expect(shown);
         let series = reference::read_text(example(&format!("{name}.txt")).as_bytes()).unwrap();
         assert_eq!(series.list().shorts(), numbers(shorts), "{name}");
-        assert_eq!((vec![series.exercised], vec![series.draw]), (numbers(exercised), numbers(draw)), "{name}");
-        assert_eq!(Some(char::from(series.method)), method.chars().next(), "{name}");
+        let terms = reference::Terms::new(series.terms.method, numbers(exercised)[0], numbers(draw)[0]);
+        assert_eq!(series.terms, terms, "{name}");
+        assert_eq!(Some(char::from(terms.method)), method.chars().next(), "{name}");
         let printed = example(&format!("{name}.out"));
         let lines = printed.lines().skip(1).take(series.accounts.len());
         let found: Vec<&str> = lines.map(|line| line.split_once(',').unwrap().1).collect();
         assert_eq!(found.join(", "), amounts, "{name}");
-        methods.push(char::from(series.method));
+        methods.push(char::from(terms.method));
     }
     assert_eq!(methods, ['W', 'P', 'L', 'R']);
+}
+
+// T of an example under W, and the first and last place of each block.
+fn blocks_of(name: &str) -> (u32, Vec<(u32, u32)>) {
+    let series = reference::read_text(example(name).as_bytes()).unwrap();
+    let total = series.list().shorts().iter().sum();
+    let mut ends: Vec<(u32, u32)> = Vec::new();
+    let blocks = reference::turn(series.terms, total, |block, place| {
+        if ends.len() < block as usize {
+            ends.push((place, place));
+        }
+        ends[block as usize - 1].1 = place;
+    });
+    assert_eq!(ends.len(), blocks as usize);
+    (total, ends)
 }
 
 // The guide's table of the blocks of examples/wheel.txt, row by row.
 #[test]
 fn the_blocks_of_the_guide() {
     let rows = rows(GUIDE, "| Block | Interval plus reserve | Skipped | Reserved | Contracts |");
-    let series = reference::read_text(example("wheel.txt").as_bytes()).unwrap();
-    let total = series.list().shorts().iter().sum();
-    let mut ends: Vec<(u32, u32)> = Vec::new();
-    let blocks = reference::turn(total, series.exercised, series.draw, |block, place| {
-        if ends.len() < block as usize {
-            ends.push((place, place));
-        }
-        ends[block as usize - 1].1 = place;
-    });
-    assert_eq!((rows.len(), ends.len()), (blocks as usize, blocks as usize));
-    let interval = reference::skip_interval(total, blocks);
+    let (total, ends) = blocks_of("wheel.txt");
+    assert_eq!(rows.len(), ends.len());
+    let interval = reference::skip_interval(total, ends.len() as u32, 25);
     assert!(GUIDE.contains("355 / 7 − 25 = 25.714286") && interval == 25_714_286);
     let mut reserve = 0;
     for (at, (row, (first, last))) in rows.iter().zip(ends).enumerate() {
@@ -179,6 +195,19 @@ fn the_blocks_of_the_guide() {
         let whole = (skip / 1_000_000).to_string();
         assert_eq!(row[1..4], [format!("{whole}.{reserve:06}"), whole, format!(".{reserve:06}")]);
     }
+}
+
+// The guide's blocks of examples/tens.txt, which begin where those of examples/wheel.txt do.
+#[test]
+fn the_blocks_by_tens() {
+    let ((total, ends), (_, of_wheel)) = (blocks_of("tens.txt"), blocks_of("wheel.txt"));
+    let shown: Vec<String> = ends.iter().map(|(first, last)| format!("{first}–{last}")).collect();
+    let (last, others) = shown.split_last().unwrap();
+    let shown = format!("{} and {last}", others.join(", "));
+    assert!(GUIDE.contains(&shown), "{shown}");
+    assert_eq!(reference::skip_interval(total, ends.len() as u32, 10), 40_714_286);
+    assert!(GUIDE.contains("355 / 7 − 10 = 40.714286"));
+    assert!(ends.iter().zip(&of_wheel).all(|(ten, block)| ten.0 == block.0) && ends.len() == of_wheel.len());
 }
 
 // The guide's starting places under L.

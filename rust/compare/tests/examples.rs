@@ -7,9 +7,10 @@ use std::path::{Path, PathBuf};
 use std::process::{Command, Output, Stdio};
 use std::sync::OnceLock;
 
+use compare::make;
 use compare::program::Program::{Assign, ChangeForm};
 use compare::program::{Feed, TextFile};
-use compare::Form;
+use compare::{Form, Terms};
 
 const GUIDE: &str = include_str!("../../../docs/GUIDE.md");
 
@@ -64,6 +65,7 @@ fn every_example_prints_what_is_stored_and_shown() {
     }
     let names = [
         "wheel",
+        "tens",
         "pro-rata",
         "five-decimals",
         "lottery",
@@ -81,6 +83,7 @@ fn every_example_prints_what_is_stored_and_shown() {
     assert_eq!(shown_after("## The text of a series"), file("lottery.txt"));
     assert_eq!(shown_after("### With codes"), file("codes.txt"));
     assert_eq!(shown_after("### With last numbers"), file("last-numbers.txt"));
+    assert_eq!(shown_after("### With an increment"), file("tens.txt"));
     let after_day = shown_after("so these four give three positions");
     assert_eq!(format!("method,exercised,draw\nL,13,4855\n{after_day}"), file("after-day.txt"));
 }
@@ -98,7 +101,7 @@ fn the_source_table_as_last_numbers() {
     let series = reference::read_text(text.as_bytes()).unwrap();
     assert_eq!((series.form, &series.numbers[..]), (Form::LastNumbers, &[5, 13, 15, 25, 36][..]));
     assert_eq!(series.accounts, [1, 2, 3, 4, 5]);
-    assert_eq!((series.method, series.exercised, series.draw), (b'L', 13, 4855));
+    assert_eq!(series.terms, Terms::new(b'L', 13, 4855));
     assert_eq!(file("last-numbers.changed"), file("lottery.txt"));
     assert_eq!(file("last-numbers.out"), file("lottery.out"));
     assert_eq!(change(&text), file("last-numbers.changed"));
@@ -117,6 +120,17 @@ fn every_example_there_and_back() {
         assert_eq!(reference::read_text(back.as_bytes()), reference::read_text(text.as_bytes()), "{name}");
         assert_eq!(back == text, name != "leading-zeros", "{name}");
     }
+}
+
+// The list of examples/wheel.txt, assigned by tens.
+#[test]
+fn an_example_assigns_by_tens() {
+    let [tens, wheel] = ["tens.txt", "wheel.txt"].map(|name| reference::read_text(file(name).as_bytes()).unwrap());
+    assert_eq!(tens.terms, Terms::new(b'W', 65, 1).by(10));
+    assert_eq!((&tens.accounts, &tens.numbers), (&wheel.accounts, &wheel.numbers));
+    // 1 has 1–10 and 51–60; 2 has 102–111, 153–162, 203–212 and 254–260; 3 has 261–263 and 305–309.
+    assert_eq!(file("tens.out"), "account,assigned\n1,20\n2,37\n3,8\n");
+    assert_eq!(reference::printed(file("tens.txt").as_bytes()), file("tens.out").as_bytes());
 }
 
 // The source's exhibit: all 50 contracts to the seventh, whose ranges are 156 to 1155 and 1342 to 2341.
@@ -193,10 +207,15 @@ fn only_a_whole_list_is_booked() {
     assert_eq!((refused.status.code(), refused.stdout.len()), (Some(1), 0));
 }
 
+// A text whose line 2 has three fields, or four with the increment.
+fn with_head(terms: &str, lines: &str) -> String {
+    format!("{}{terms}\n{lines}", make::names_1(terms.matches(',').count() == 3))
+}
+
 #[test]
 fn a_whole_list_of_every_method_is_booked() {
     let exhibit = file("remainder-draw.txt");
-    let (head, lines) = exhibit.split_once("R,50,395\n").unwrap();
+    let (_, lines) = exhibit.split_once("R,50,395\n").unwrap();
     for (terms, lines) in [
         ("W,50,395", lines),
         ("P,50,395", lines),
@@ -215,16 +234,31 @@ fn a_whole_list_of_every_method_is_booked() {
         ("R,36,0", "account,last\n0001,0005\n2,13\n3,36\n"),
         ("W,30,5", "code,account,last\n7,9,5\n8,2,13\n9,3,36\n"),
         ("R,7,11", "code,account,last\n0,8,5\n0,9,11\n"),
+        ("W,50,395,10", lines),
+        ("W,1186,0,1", lines),
+        ("P,50,395,0", lines),
+        ("R,50,395,4294967295", lines),
+        ("W,0030,5,0007", "code,account,last\n7,9,5\n8,2,13\n9,3,36\n"),
     ] {
-        let text = format!("{head}{terms}\n{lines}");
+        let text = with_head(terms, lines);
         let found = book(TextFile::new(text.as_bytes()).path());
         assert!(found.status.success() && found.stderr.is_empty(), "{text}");
         let printed = String::from_utf8(reference::printed(text.as_bytes())).unwrap();
         assert!(printed.starts_with("account,assigned\n"), "{text}");
         assert_eq!(String::from_utf8(found.stdout).unwrap(), amounts(&printed), "{text}");
     }
-    for terms in ["R,0,395", "R,1187,395", "R,50,x", "r,50,395", "L,50,0", "W,50,1187"] {
-        let text = format!("{head}{terms}\n{lines}");
+    for terms in [
+        "R,0,395",
+        "R,1187,395",
+        "R,50,x",
+        "r,50,395",
+        "L,50,0",
+        "W,50,1187",
+        "W,50,395,0",
+        "W,50,395,1001",
+        "R,50,395,x",
+    ] {
+        let text = with_head(terms, lines);
         let found = book(TextFile::new(text.as_bytes()).path());
         assert_eq!((found.status.code(), found.stdout.len()), (Some(1), 0), "{text}");
     }

@@ -1,23 +1,15 @@
 // The two forms of a list, and the change of a text from one to the other, by the library's own answers.
 
+use compare::library::{self, change, respond, write, Read};
 use compare::make::{self, Series, METHODS};
 use compare::random::Random;
-use compare::{Count, Form, List, FORMS};
-use dilbreth::{calls, Refused, Terms};
+use compare::{Count, Form, List, Terms, DEFAULT_INCREMENT, FORMS};
+use dilbreth::{calls, Refused};
 
 const MOST: u32 = 10_000_000;
 
 // Numbers that stand for last numbers.
 const LAST_NUMBERS: [u32; 9] = [1, 2, 254, 255, 256, 65_536, 1 << 24, 1 << 31, u32::MAX];
-
-// Answer, T, the further number and the amounts, each 7 before.
-fn allocate(method: u8, form: u32, list: &Series, exercised: u32, draw: u32) -> (u32, u32, u32, Vec<u32>) {
-    let Series { codes, accounts, numbers, .. } = list;
-    let (mut total, mut further, mut amounts) = (7, 7, vec![7; numbers.len()]);
-    let (out, t, f) = (&mut amounts, &mut total, &mut further);
-    let number = calls::allocate(method, form, codes, accounts, numbers, exercised, draw, out, t, f);
-    (number, total, further, amounts)
-}
 
 #[test]
 fn both_forms_are_allocated_alike() {
@@ -32,9 +24,9 @@ fn both_forms_are_allocated_alike() {
             let list = make::coded(&mut random, method, &list);
             let lasts = list.in_form(Form::LastNumbers);
             assert_eq!(lasts.total(), list.total());
-            let (exercised, draw) = make::terms(&mut random, method, positions as usize, list.total());
-            let found = allocate(method, 0, &list, exercised, draw);
-            assert_eq!(allocate(method, random.pick(&LAST_NUMBERS), &lasts, exercised, draw), found, "{list:?}");
+            let terms = make::terms(&mut random, method, positions as usize, list.total());
+            let found = library::allocate(terms, 0, &list);
+            assert_eq!(library::allocate(terms, random.pick(&LAST_NUMBERS), &lasts), found, "{terms:?} {list:?}");
             calls[usize::from(found.0 == 0)] += 1;
         }
     }
@@ -49,17 +41,17 @@ fn any_number_but_0_stands_for_last_numbers() {
     let Series { codes, accounts, numbers, .. } = &list;
     let written = |form: u32| {
         let (mut text, mut length) = ([0; 80], 0);
-        assert_eq!(calls::write(b'L', 4, 2, form, codes, accounts, numbers, &mut text, &mut length), 0);
+        assert_eq!(calls::write(b'L', 4, 2, 25, form, codes, accounts, numbers, &mut text, &mut length), 0);
         String::from_utf8_lossy(&text[..length]).to_string()
     };
     assert!(written(0).contains("\naccount,short\n2,1\n"));
     for form in LAST_NUMBERS {
         assert_eq!(written(form), written(0).replace("short", "last"), "{form}");
-        for method in METHODS {
-            assert_eq!(allocate(method, 0, &list, 4, 2).1, 12);
-            let found = allocate(method, form, &list, 4, 2);
+        for terms in METHODS.map(|method| Terms::new(method, 4, 2)) {
+            assert_eq!(library::allocate(terms, 0, &list).1, 12);
+            let found = library::allocate(terms, form, &list);
             assert_eq!((found.0, found.1), (0, 5), "{form}");
-            assert_eq!(found, allocate(method, 1, &list, 4, 2), "{form}");
+            assert_eq!(found, library::allocate(terms, 1, &list), "{form}");
         }
     }
 }
@@ -94,10 +86,10 @@ fn last_numbers_are_judged_at_each_position() {
                     let expected = [met(before, last), if highest > MOST { 7 } else { 0 }];
                     let expected = expected.into_iter().find(|&number| number > 0).unwrap_or(0);
                     for method in METHODS {
-                        let found = allocate(method, 1, &other, 1, 1).0;
+                        let found = library::allocate(Terms::new(method, 1, 1), 1, &other).0;
                         assert_eq!(found, expected, "{last} at {at} of {positions}, {before} before");
                     }
-                    count.allocate(b'P', other.list(), 1, 1, positions);
+                    count.allocate(Terms::new(b'P', 1, 1), other.list(), positions);
                 }
             }
         }
@@ -126,50 +118,16 @@ fn twenty_stands_in_the_place_of_six() {
             // At one position a number is either 0 or too large: the one put in last.
             let earliest = if at == later && first.min(second) >= 2 { first } else { earliest };
             for (form, by_form) in [(0, 0), (1, 1), (2, 2)] {
-                assert_eq!(allocate(b'W', form, &list, 1, 1).0, numbers[earliest][by_form], "{list:?}");
+                let found = library::allocate(Terms::new(b'W', 1, 1), form, &list).0;
+                assert_eq!(found, numbers[earliest][by_form], "{list:?}");
             }
         }
     }
 }
 
-fn change(text: &[u8]) -> Result<Vec<u8>, Refused> {
-    let mut output = vec![0; reference::MOST_CHANGED];
-    let length = dilbreth::change(text, &mut output)?;
-    output.truncate(length);
-    Ok(output)
-}
-
-#[derive(Debug, PartialEq)]
-struct Read {
-    terms: Terms,
-    codes: Vec<u32>,
-    accounts: Vec<u32>,
-    numbers: Vec<u32>,
-}
-
 #[track_caller]
 fn read(text: &[u8]) -> Read {
-    let [mut codes, mut accounts, mut numbers] = [(); 3].map(|_| vec![0; 1_024]);
-    let terms = dilbreth::read(text, &mut codes, &mut accounts, &mut numbers).expect("a series");
-    for list in [&mut codes, &mut accounts, &mut numbers] {
-        list.truncate(terms.positions);
-    }
-    Read { terms, codes, accounts, numbers }
-}
-
-fn write(read: &Read) -> Vec<u8> {
-    let Read { terms: Terms { method, exercised, draw, form, .. }, codes, accounts, numbers } = read;
-    let mut text = vec![0; 32_768];
-    let length = dilbreth::write(*method, *exercised, *draw, *form, codes, accounts, numbers, &mut text);
-    text.truncate(length.expect("a text"));
-    text
-}
-
-fn respond(text: &[u8]) -> Vec<u8> {
-    let mut output = vec![0; reference::MOST_PRINTED];
-    let length = dilbreth::respond(text, &mut output).expect("room enough");
-    output.truncate(length);
-    output
+    library::read(text).expect("a series")
 }
 
 // What a changed text has of the series: all but the form and the numbers, which add up or are differences.
@@ -178,7 +136,7 @@ fn is_in_the_other_form(before: &Read, after: &Read) {
         dilbreth::Form::Shorts => (before, after),
         dilbreth::Form::LastNumbers => (after, before),
     };
-    assert_eq!(shorts.terms, Terms { form: dilbreth::Form::Shorts, ..lasts.terms });
+    assert_eq!(shorts.terms, dilbreth::Terms { form: dilbreth::Form::Shorts, ..lasts.terms });
     assert_eq!((&shorts.codes, &shorts.accounts), (&lasts.codes, &lasts.accounts));
     let mut last = 0;
     for (short, found) in shorts.numbers.iter().zip(&lasts.numbers) {
@@ -224,10 +182,16 @@ fn every_small_text_there_and_back() {
         for (method, form) in METHODS.into_iter().flat_map(|method| FORMS.map(|form| (method, form))) {
             for (exercised, draw) in [(0, 0), (1, 1), (total, 3), (total + 1, total + 1)] {
                 let list = list.in_form(form);
-                let text = reference::write(method, exercised, draw, list.list(), usize::MAX).expect("a text");
-                assert!(there_and_back(&text) == Changed::Bytes);
-                assert!(there_and_back(&make::with_codes(&text)) == Changed::Series);
-                texts += 1;
+                for increment in [DEFAULT_INCREMENT, exercised, u32::MAX] {
+                    let terms = Terms::new(method, exercised, draw).by(increment);
+                    let text = reference::write(terms, list.list(), usize::MAX).expect("a text");
+                    assert!(there_and_back(&text) == Changed::Bytes);
+                    assert!(there_and_back(&make::with_codes(&text)) == Changed::Series);
+                    if increment == DEFAULT_INCREMENT {
+                        assert!(there_and_back(&make::with_increment(&text)) == Changed::Series);
+                    }
+                    texts += 1;
+                }
             }
         }
     }
@@ -291,24 +255,27 @@ fn the_same_numbers_in_either_form() {
 const SHORTS: &str = "account,short\n1,5\n2,8\n3,2\n4,10\n5,11\n";
 const LASTS: &str = "account,last\n1,5\n2,13\n3,15\n4,25\n5,36\n";
 
+// Line 2 has three fields, or four where it has the increment.
 fn text(line_2: &str, rest: &str) -> String {
-    format!("method,exercised,draw\n{line_2}\n{rest}")
+    format!("{}{line_2}\n{rest}", make::names_1(line_2.matches(',').count() == 3))
 }
 
 fn changed(text: &str) -> Result<String, u32> {
     change(text.as_bytes()).map(|bytes| String::from_utf8(bytes).expect("ASCII")).map_err(|Refused(number)| number)
 }
 
-// T is 36: S that is 0 or above T, and draws out of every range.
+// T is 36: S that is 0 or above T, and draws and increments out of every range.
 #[test]
 fn terms_are_not_judged() {
     for method in METHODS.map(char::from) {
         for exercised in [0, 1, 13, 35, 36, 37, MOST, MOST + 1, u32::MAX] {
             for draw in [0, 1, 36, 37, 10_000, 10_001, u32::MAX] {
-                let line_2 = format!("{method},{exercised},{draw}");
-                let [shorts, lasts] = [SHORTS, LASTS].map(|rest| text(&line_2, rest));
-                assert_eq!(changed(&shorts).as_ref(), Ok(&lasts));
-                assert_eq!(changed(&lasts), Ok(shorts));
+                for increment in ["", ",0", ",1", ",26", ",1000", ",1001", ",4294967295"] {
+                    let line_2 = format!("{method},{exercised},{draw}{increment}");
+                    let [shorts, lasts] = [SHORTS, LASTS].map(|rest| text(&line_2, rest));
+                    assert_eq!(changed(&shorts).as_ref(), Ok(&lasts));
+                    assert_eq!(changed(&lasts), Ok(shorts));
+                }
             }
         }
     }
@@ -320,7 +287,7 @@ fn unknown_letters() {
         for rest in [SHORTS, LASTS, "account,last\n", "account,last\n0,0\n", "account,lasts\n"] {
             let text = [b"method,exercised,draw\n", &[byte][..], b",1,1\n", rest.as_bytes()].concat();
             assert_eq!(change(&text), Err(Refused(14)), "{byte}");
-            assert_eq!(respond(&text), b"refused\n14\n", "{byte}");
+            assert_eq!(respond(&text), "refused\n14\n", "{byte}");
         }
     }
 }
@@ -337,6 +304,10 @@ fn refusals_of_a_change() {
         ("L,1,x", "account,lasts\n1,0\n".to_string(), 13),
         ("X,1,x", "account,lasts\n1,0\n".to_string(), 14),
         ("L,1", "account,last\n1,0\n".to_string(), 13),
+        ("L,1,1,x", "account,lasts\n1,0\n".to_string(), 13),
+        ("X,1,1,x", "account,last\n1,0\n".to_string(), 14),
+        ("W,1,1,0", "account,last\n1,0\n".to_string(), 20),
+        ("W,0,0,1001", "account,short\n1,0\n".to_string(), 6),
         // What is wrong with the text comes before what is wrong with an earlier position.
         ("L,1,1", "account,last\n1,0\n2,x\n".to_string(), 13),
         ("L,1,1", "account,last\n0,0\n1,1,1\n".to_string(), 13),
@@ -370,7 +341,7 @@ fn refusals_of_a_change() {
         let text = text(line_2, &rest);
         assert_eq!(changed(&text), Err(number), "{line_2} {rest}");
         // Outputs of any length, the text's own among them.
-        for room in [0, 1, 22, 60, text.len(), 31_809, 40_000] {
+        for room in [0, 1, 22, 60, text.len(), reference::MOST_CHANGED, 40_000] {
             assert!(!count.case(compare::change(text.as_bytes(), room)), "{line_2} {rest}");
         }
     }
@@ -403,17 +374,26 @@ fn changes_go_by_the_method() {
 fn outputs_of_every_length() {
     let mut count = Count::new("forms, outputs of every length");
     let coded = "code,account,last\n3,20,60\n7,4,260\n9,11,355\n";
-    for (line_2, rest) in [("L,13,4855", SHORTS), ("L,13,4855", LASTS), ("W,0,4294967295", coded), ("W,1,1", "")] {
+    for (line_2, rest) in [
+        ("L,13,4855", SHORTS),
+        ("L,13,4855", LASTS),
+        ("W,0,4294967295", coded),
+        ("W,1,1", ""),
+        ("W,13,4,10", SHORTS),
+        ("W,0,4294967295,4294967295", coded),
+        ("L,13,4855,25", LASTS),
+    ] {
         let text = text(line_2, rest);
         let needed = changed(&text).map_or(usize::MAX, |changed| changed.len());
-        for room in 0..120 {
+        for room in 0..130 {
             assert_eq!(count.case(compare::change(text.as_bytes(), room)), room >= needed, "{room} of {needed}");
         }
     }
     count.print();
 }
 
-// With leading zeros, which are not written, and with codes that are the accounts, which are left out.
+// With leading zeros, which are not written, and with codes that are the accounts and an increment of 25, which are left
+// out.
 #[test]
 fn what_is_not_written() {
     for (from, to) in [
@@ -425,16 +405,25 @@ fn what_is_not_written() {
         ("code,account,short\n003,1,5\n4,02,8\n", "code,account,last\n3,1,5\n4,2,13\n"),
     ] {
         for method in ["W", "P", "L", "R"] {
-            let [from, to] = [(from, "0000000007"), (to, "7")].map(|(rest, s)| text(&format!("{method},{s},0"), rest));
-            assert_eq!(changed(&from).as_ref(), Ok(&to));
-            assert!(there_and_back(from.as_bytes()) == Changed::Series);
-            assert!(there_and_back(to.as_bytes()) == Changed::Bytes);
+            for (terms, written) in [
+                ("0000000007,0", "7,0"),
+                ("7,0,25", "7,0"),
+                ("7,0,0000000025", "7,0"),
+                ("7,0,0000000026", "7,0,26"),
+                ("007,0,0000000000", "7,0,0"),
+            ] {
+                let [from, to] =
+                    [(from, terms), (to, written)].map(|(rest, terms)| text(&format!("{method},{terms}"), rest));
+                assert_eq!(changed(&from).as_ref(), Ok(&to));
+                assert!(there_and_back(from.as_bytes()) == Changed::Series);
+                assert!(there_and_back(to.as_bytes()) == Changed::Bytes);
+            }
         }
     }
 }
 
-// 1,024 positions with ten digits in each code and account, and a first position of so many contracts that each last
-// number has seven digits; only T can have eight.
+// 1,024 positions with ten digits in each code and account, and in S, draw and increment, and a first position of so many
+// contracts that each last number has seven digits; only T can have eight.
 fn longest(method: u8) -> Vec<u8> {
     let high: Vec<u32> = (u32::MAX - 1_023..=u32::MAX).collect();
     let low: Vec<u32> = (1_000_000_000..1_000_001_024).rev().collect();
@@ -442,16 +431,18 @@ fn longest(method: u8) -> Vec<u8> {
     let mut shorts = vec![1; 1_024];
     (shorts[0], shorts[1_023]) = (1_000_000, MOST - 1_000_000 - 1_022);
     let list = List { codes: &codes, ..List::by_account(&accounts, &shorts) };
-    reference::write(method, u32::MAX, 1_000_000_000, list, usize::MAX).expect("a text")
+    let terms = Terms { method, exercised: u32::MAX, draw: 1_000_000_000, increment: 3_000_000_000 };
+    reference::write(terms, list, usize::MAX).expect("a text")
 }
 
 #[test]
 fn the_longest_changed_text() {
     let mut count = Count::new("forms, the longest text");
-    const LONGEST: usize = 22 + 24 + 18 + 1_023 * 30 + 31;
+    const LONGEST: usize = 32 + 35 + 18 + 1_023 * 30 + 31;
+    assert_eq!((LONGEST, reference::MOST_CHANGED), (30_806, 31_830));
     for text in METHODS.map(longest) {
         let lasts = change(&text).expect("a changed text");
-        assert_eq!((lasts.len(), LONGEST), (30_785, 30_785));
+        assert_eq!(lasts.len(), LONGEST);
         assert!(there_and_back(&text) == Changed::Bytes && there_and_back(&lasts) == Changed::Bytes);
         // In ten digits each number, which is the longest text that can be read of these.
         let spelled = make::stretched(&text, 32_768);
@@ -478,14 +469,15 @@ fn no_changed_text_is_longer() {
         if case % 2 == 0 {
             make::shuffle(&mut random, &mut list.accounts);
         }
-        let text = reference::write(b'W', u32::MAX, u32::MAX, list.in_form(form).list(), usize::MAX).expect("a text");
+        let terms = Terms::new(b'W', u32::MAX, u32::MAX).by(u32::MAX);
+        let text = reference::write(terms, list.in_form(form).list(), usize::MAX).expect("a text");
         assert!(there_and_back(&text) == Changed::Bytes);
         let length = change(&text).expect("a changed text").len();
         let most = &mut most[usize::from(form == Form::LastNumbers)];
         *most = length.max(*most);
     }
     println!("forms: the longest changed texts have {most:?} bytes, to last numbers and to shorts");
-    assert!(most.iter().all(|&most| most > 25_000 && most <= 30_785));
+    assert!(most.iter().all(|&most| most > 25_000 && most <= 30_806));
 }
 
 // At the limits: 1,024 lines and 32,768 bytes, or one more.
@@ -495,7 +487,7 @@ fn the_largest_texts() {
     for (form, method) in FORMS.into_iter().flat_map(|form| METHODS.map(|method| (form, method))) {
         for lines in [1, 1_023, 1_024, 1_025] {
             let list = Series::by_account(make::upward(lines), vec![9_000; lines]).in_form(form);
-            let head = text(&format!("{},1,1", char::from(method)), make::names(false, form));
+            let head = text(&format!("{},1,1", char::from(method)), make::names_3(false, form));
             let lines_of =
                 list.accounts.iter().zip(&list.numbers).map(|(account, number)| format!("{account},{number}\n"));
             let text = head + &lines_of.collect::<String>();
@@ -510,7 +502,7 @@ fn the_largest_texts() {
     count.print();
 }
 
-// What reading hands back, for every line 3, with positions and without.
+// What reading hands back, for every line 3, with positions and without, and for both lines 1.
 #[test]
 fn reading_hands_back_the_form() {
     for (rest, form) in [
@@ -525,24 +517,25 @@ fn reading_hands_back_the_form() {
         ("code,account,last\n0,0,7\n9,9,7\n", Form::LastNumbers),
         ("code,account,short\n0,0,7\n9,9,7\n", Form::Shorts),
     ] {
-        for method in ["W", "P", "L", "R"] {
-            let text = text(&format!("{method},0,0"), rest);
+        for (method, column) in METHODS.into_iter().flat_map(|method| [(method, ""), (method, ",26")]) {
+            let text = text(&format!("{},0,0{column}", char::from(method)), rest);
             let [mut codes, mut accounts, mut numbers] = [[0; 5]; 3];
-            let (mut letter, mut exercised, mut draw, mut found, mut positions) = (0, 9, 9, 9, 9);
-            let terms = (&mut letter, &mut exercised, &mut draw, &mut found);
-            let lists = (&mut codes[..], &mut accounts[..], &mut numbers[..]);
+            let mut terms = Terms::new(0, 9, 9).by(9);
+            let (mut found, mut positions) = (9, 9);
             let number = calls::read(
                 text.as_bytes(),
-                lists.0,
-                lists.1,
-                lists.2,
-                terms.0,
-                terms.1,
-                terms.2,
-                terms.3,
+                &mut terms.method,
+                &mut terms.exercised,
+                &mut terms.draw,
+                &mut terms.increment,
+                &mut found,
+                &mut codes,
+                &mut accounts,
+                &mut numbers,
                 &mut positions,
             );
             assert_eq!((number, found), (0, u32::from(form == Form::LastNumbers)), "{text}");
+            assert_eq!(terms, Terms::new(method, 0, 0).by(if column.is_empty() { 25 } else { 26 }));
             assert_eq!(positions, text.lines().count() - 3);
             // It can be written again, whatever its numbers are.
             let again = write(&read(text.as_bytes()));

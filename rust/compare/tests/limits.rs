@@ -1,7 +1,7 @@
 // The limits of the document, and lists to which several refusals apply.
 
-use compare::make::{draws, names, upward, METHODS};
-use compare::{Count, Form, List, FORMS};
+use compare::make::{draws, names_1, names_3, upward, INCREMENTS, METHODS};
+use compare::{Count, Form, List, Terms, DEFAULT_INCREMENT, FORMS};
 
 const MOST: u32 = 10_000_000;
 
@@ -14,7 +14,7 @@ fn each_method(count: &mut Count, accounts: &[u32], shorts: &[u32], exercised: &
     for (method, list) in METHODS.map(|method| (method, list)).into_iter().chain([(b'W', by_code)]) {
         for &s in exercised {
             for &draw in draws {
-                count.allocate(method, list, s, draw, accounts.len());
+                count.allocate(Terms::new(method, s, draw), list, accounts.len());
             }
         }
     }
@@ -30,10 +30,15 @@ fn number_of_positions() {
             let total = short * positions as u32;
             let exercised = [0, 1, total / 3, total - 1, total, total + 1];
             each_method(&mut count, &accounts, &shorts, &exercised, &draws(total));
+            let list = List::by_account(&accounts, &shorts);
+            for (s, increment) in exercised.into_iter().flat_map(|s| INCREMENTS.map(|increment| (s, increment))) {
+                count.allocate(Terms::new(b'W', s, total / 2 + 1).by(increment), list, positions);
+            }
         }
     }
     count.print();
     assert!(!count.undrawn().contains(&0));
+    assert!(!count.met([2, 23]).contains(&0));
 }
 
 #[test]
@@ -51,7 +56,13 @@ fn number_of_contracts() {
         each_method(&mut count, &accounts, &base, &[0, MOST, MOST + 1, u32::MAX], &draws(MOST));
         for draw in [0, 1, MOST - 1, MOST, MOST + 1, u32::MAX] {
             for method in *b"WLR" {
-                count.allocate(method, List::by_account(&accounts, &base), MOST - 1, draw, base.len());
+                count.allocate(Terms::new(method, MOST - 1, draw), List::by_account(&accounts, &base), base.len());
+            }
+        }
+        for increment in INCREMENTS {
+            for (s, draw) in [(MOST - 1, 0), (MOST - 1, 7), (MOST, 0), (MOST + 1, 1), (1_000_000, MOST)] {
+                let terms = Terms::new(b'W', s, draw).by(increment);
+                count.allocate(terms, List::by_account(&accounts, &base), base.len());
             }
         }
         for at in [0, base.len() / 2, base.len() - 1] {
@@ -64,6 +75,7 @@ fn number_of_contracts() {
     }
     count.print();
     assert!(!count.undrawn().contains(&0));
+    assert!(!count.met([0, 7, 8, 9, 10, 23, 24]).contains(&0));
 }
 
 #[test]
@@ -73,6 +85,10 @@ fn one_position() {
         for short in [0u32, 1, 2, 24, 25, 26, 49, 50, 51, 75, 1_000] {
             for s in (0..=short.min(80) + 1).chain([short.saturating_sub(1), short, short + 1]) {
                 each_method(&mut count, &[account], &[short], &[s], &draws(short));
+                for increment in INCREMENTS {
+                    let terms = Terms::new(b'W', s, short).by(increment);
+                    count.allocate(terms, List::by_account(&[account], &[short]), 1);
+                }
             }
         }
     }
@@ -94,12 +110,12 @@ fn lengths_of_the_lists() {
                 for room in [0, 1, 2, 3, 4, 4_095, 4_096, 4_097, 5_000] {
                     for method in *b"WPLRX" {
                         for exercised in [0, 1] {
-                            count.allocate(method, list, exercised, 1, room);
+                            count.allocate(Terms::new(method, exercised, 1), list, room);
                         }
                     }
                 }
                 for (method, form) in [(b'P', Form::Shorts), (b'R', Form::LastNumbers)] {
-                    count.case(compare::write(method, 1, 1, List { form, ..list }, 40_000));
+                    count.case(compare::write(Terms::new(method, 1, 1), List { form, ..list }, 40_000));
                 }
             }
         }
@@ -111,26 +127,30 @@ fn lengths_of_the_lists() {
 fn every_method_byte() {
     let mut count = Count::new("limits, methods");
     for method in 0..=255 {
-        for form in FORMS {
-            method_byte(&mut count, method, form);
+        for (form, increment) in FORMS.into_iter().flat_map(|form| [0, 10, DEFAULT_INCREMENT].map(|by| (form, by))) {
+            method_byte(&mut count, Terms::new(method, 26, 7).by(increment), form);
         }
-        count.allocate(method, List::by_account(&[], &[1]), 0, 0, 0);
-        count.allocate(method, List::by_account(&[0], &[0]), 0, 0, 0);
+        let none = Terms::new(method, 0, 0).by(0);
+        count.allocate(none, List::by_account(&[], &[1]), 0);
+        count.allocate(none, List::by_account(&[0], &[0]), 0);
     }
     count.print();
 }
 
-fn method_byte(count: &mut Count, method: u8, form: Form) {
+fn method_byte(count: &mut Count, terms: Terms, form: Form) {
     for codes in [&[1, 2][..], &[1, 3], &[2, 1], &[2]] {
         let list = List { form, codes, ..List::by_account(&[1, 2], &[30, 40]) };
-        count.allocate(method, list, 26, 7, 2);
-        count.case(compare::write(method, 26, 7, list, 100));
-        count.case(compare::write(method, 26, 7, list, 0));
-        count.case(compare::write(method, 26, 7, List { numbers: &[30], ..list }, 100));
+        count.allocate(terms, list, 2);
+        count.case(compare::write(terms, list, 100));
+        count.case(compare::write(terms, list, 0));
+        count.case(compare::write(terms, List { numbers: &[30], ..list }, 100));
     }
+    let Terms { method, increment, .. } = terms;
+    let (increments, column) =
+        if increment == DEFAULT_INCREMENT { (false, String::new()) } else { (true, format!(",{increment}")) };
     for (coded, lines) in [(false, "1,30\n2,40\n"), (true, "1,2,30\n2,1,40\n"), (false, ""), (true, "5,5,x\n")] {
-        let lines = [names(coded, form), lines].concat();
-        let text = [&b"method,exercised,draw\n"[..], &[method], b",26,7\n", lines.as_bytes()].concat();
+        let rest = [",26,7", &column, "\n", names_3(coded, form), lines].concat();
+        let text = [names_1(increments).as_bytes(), &[method], rest.as_bytes()].concat();
         count.case(compare::read(&text, [2; 3]));
         for room in [100, 20] {
             count.case(compare::respond(&text, room));
@@ -151,7 +171,7 @@ fn several_refusals_at_once() {
     three_positions(&mut count, Form::Shorts, [0, 1, MOST, MOST + 1, u32::MAX]);
     three_positions(&mut count, Form::LastNumbers, [0, 2, 4, MOST + 1, u32::MAX]);
     count.print();
-    assert!(!count.met([0, 1, 4, 5, 6, 7, 8, 9, 10, 19, 20]).contains(&0));
+    assert!(!count.met([0, 1, 4, 5, 6, 7, 8, 9, 10, 19, 20, 23]).contains(&0));
 }
 
 fn three_positions(count: &mut Count, form: Form, numbers: [u32; 5]) {
@@ -182,7 +202,10 @@ fn each_exercised(count: &mut Count, method: u8, list: List, room: usize) {
         for draw in [0, 1, u32::MAX] {
             // Large T belongs to the other tests.
             if list.numbers.iter().all(|&number| number != MOST) || exercised != 3 || method == b'P' {
-                count.allocate(method, list, exercised, draw, room);
+                // W refuses the first of them, and the others look at none.
+                for &increment in if method == b'W' { &[0, 2][..] } else { &[0] } {
+                    count.allocate(Terms::new(method, exercised, draw).by(increment), list, room);
+                }
             }
         }
     }
@@ -199,7 +222,7 @@ fn accounts_that_are_the_numbers() {
             let total: u32 = list.shorts().iter().sum();
             for (method, draw) in METHODS.into_iter().flat_map(|method| [(method, 1), (method, 77)]) {
                 for exercised in [1, total / 2, total - 1, total] {
-                    count.allocate(method, list, exercised, draw, positions);
+                    count.allocate(Terms::new(method, exercised, draw), list, positions);
                 }
             }
         }

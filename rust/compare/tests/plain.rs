@@ -1,21 +1,19 @@
 // What the benchmarks measure against gives the same answers.
 
 use compare::random::Random;
-use compare::{cases, days, make, plain, Count, Form, List, FORMS};
+use compare::{cases, days, make, plain, Count, Form, List, Terms, FORMS, LAST_REFUSAL};
 use reference::{Allocation, Series};
+
+type Plain = fn(Terms, List, &mut [u32]) -> Result<(u32, u32), u32>;
 
 // Holds an allocation by plain Rust against the separate version; `room` is the length of the output.
 #[track_caller]
-fn hold(
-    what: &str,
-    (method, list, exercised, draw, room): (u8, List, u32, u32, usize),
-    allocate: impl FnOnce(&mut [u32]) -> Result<(u32, u32), u32>,
-) -> Result<Allocation, u32> {
-    let expected = reference::allocate(method, list, exercised, draw, room);
+fn hold(what: &str, (terms, list, room): (Terms, List, usize), allocate: Plain) -> Result<Allocation, u32> {
+    let expected = reference::allocate(terms, list, room);
     let mut amounts = vec![77; room];
-    let found = allocate(&mut amounts);
+    let found = allocate(terms, list, &mut amounts);
     let found = found.map(|(total, further)| Allocation { amounts, total, further });
-    assert_eq!(found, expected, "{what}: {}", cases::allocate(method, list, exercised, draw, room));
+    assert_eq!(found, expected, "{what}: {}", cases::allocate(terms, list, room));
     expected
 }
 
@@ -23,60 +21,64 @@ fn hold(
 fn plain_allocation() {
     let mut random = Random::new(0xBE7C_0001);
     let mut count = Count::new("plain");
-    let mut met = [0; 21];
+    let mut met = [0; LAST_REFUSAL + 1];
     for case in 0..20_000 {
-        let (positions, most) = if case % 100 == 0 { (4_096, 300_000) } else { (40, 2_000) };
+        let (positions, most) = match case % 200 {
+            0 => (4_096, 10_000_000),
+            100 => (4_096, 300_000),
+            _ => (40, 2_000),
+        };
         let positions = random.between(1, positions);
         let most = random.between(positions, most);
         let list = make::series(&mut random, positions as usize, most, false);
         let method = random.pick(&make::METHODS);
         let mut list = make::coded(&mut random, method, &list);
-        let (exercised, draw) = make::terms(&mut random, method, positions as usize, list.total());
+        let terms = make::terms(&mut random, method, positions as usize, list.total());
         list = list.in_form(random.pick(&FORMS));
         if random.one_in(10) {
             make::spoil(&mut random, &mut list);
         }
         let room = list.accounts.len().saturating_sub(usize::from(random.one_in(20)));
-        let call = (method, list.list(), exercised, draw, room);
-        let answer = hold("plain", call, |out| plain::allocate(method, list.list(), exercised, draw, out));
+        let call = (terms, list.list(), room);
+        let answer = hold("plain", call, plain::allocate);
         let other = match method {
             b'W' => plain::allocate_wheel_by_division,
             _ => plain::allocate_pro_rata_by_bisection,
         };
         if b"WP".contains(&method) {
-            let _ = hold("the other way", call, |out| other(list.list(), exercised, draw, out));
+            let _ = hold("the other way", call, other);
         }
         met[answer.as_ref().err().map_or(0, |&number| number as usize)] += 1;
         if count.case(Ok(answer.is_ok())) {
-            count.allocated(method, list.list(), exercised, draw);
+            count.allocated(terms, list.list());
         }
     }
     count.print();
     assert!(!count.undrawn().contains(&0));
     println!("plain: refused by 5 {}, by 19 {}, by 6 {}, by 20 {}", met[5], met[19], met[6], met[20]);
-    assert!([0, 1, 4, 5, 6, 7, 8, 9, 10, 19, 20].iter().all(|&number| met[number] > 0));
+    println!("plain: refused by 23 {}, by 24 {}", met[23], met[24]);
+    assert!([0, 1, 4, 5, 6, 7, 8, 9, 10, 19, 20, 23, 24].iter().all(|&number| met[number] > 0));
 }
 
 // Holds the reading of a text against the separate version; the series, where there is one.
 fn read(text: &[u8], rooms: [usize; 3]) -> Result<Series, u32> {
     let [mut codes, mut accounts, mut numbers] = rooms.map(|room| vec![0; room]);
     let found = plain::read(text, &mut codes, &mut accounts, &mut numbers);
-    let found = found.map(|plain::Terms { method, exercised, draw, form, count }| {
+    let found = found.map(|plain::Head { terms, form, count }| {
         for list in [&mut codes, &mut accounts, &mut numbers] {
             list.truncate(count);
         }
-        Series { method, exercised, draw, form, codes, accounts, numbers }
+        Series { terms, form, codes, accounts, numbers }
     });
     assert_eq!(found, reference::read(text, rooms), "{}", cases::read(text, rooms));
     found
 }
 
 // Holds the writing of a list against the separate version; the text, where there is one.
-fn write(method: u8, exercised: u32, draw: u32, list: List, room: usize) -> Result<Vec<u8>, u32> {
+fn write(terms: Terms, list: List, room: usize) -> Result<Vec<u8>, u32> {
     let mut text = vec![0; room];
-    let found = plain::write(method, exercised, draw, list, &mut text).map(|length| text[..length].to_vec());
-    let shown = || cases::write(method, exercised, draw, list, room);
-    assert_eq!(found, reference::write(method, exercised, draw, list, room), "{}", shown());
+    let found = plain::write(terms, list, &mut text).map(|length| text[..length].to_vec());
+    assert_eq!(found, reference::write(terms, list, room), "{}", cases::write(terms, list, room));
     found
 }
 
@@ -84,7 +86,7 @@ fn write(method: u8, exercised: u32, draw: u32, list: List, room: usize) -> Resu
 fn plain_texts() {
     let mut random = Random::new(0xBE7C_0002);
     let mut count = Count::new("plain texts");
-    let (mut otherwise, mut coded) = (0, 0);
+    let (mut otherwise, mut coded, mut by_increment) = (0, 0, 0);
     for _ in 0..15_000 {
         let lines = make::lines(&mut random);
         let mut text = make::text(&mut random, lines);
@@ -95,15 +97,18 @@ fn plain_texts() {
         let found = read(&text, rooms);
         count.case(Ok(found.is_ok()));
         if let Ok(s) = found {
-            let written = write(s.method, s.exercised, s.draw, s.list(), 32_768).unwrap();
-            assert_eq!(write(s.method, s.exercised, s.draw, s.list(), written.len() - 1), Err(4));
+            let written = write(s.terms, s.list(), 32_768).unwrap();
+            assert_eq!(write(s.terms, s.list(), written.len() - 1), Err(4));
             otherwise += u32::from(written != text);
             coded += u32::from(make::has_codes(&written));
+            by_increment += u32::from(make::has_increment(&written));
         }
     }
     count.print();
-    println!("plain texts: {otherwise} accepted and written otherwise, {coded} with codes");
-    assert!(otherwise > 1_000 && coded > 1_000);
+    println!(
+        "plain texts: {otherwise} accepted and written otherwise, {coded} with codes, {by_increment} with an increment"
+    );
+    assert!(otherwise > 1_000 && coded > 1_000 && by_increment > 1_000);
 }
 
 // Holds what is written to an output of the length against the bytes expected; answers whether anything is.
@@ -188,13 +193,17 @@ fn plain_writing() {
         let accounts: Vec<u32> = accounts.iter().map(|account| account - 1).collect();
         for (form, room) in FORMS.into_iter().flat_map(|form| [(form, 0), (form, 40_000)]) {
             let list = List { form, codes: &codes, accounts: &accounts, numbers: &numbers };
-            assert_eq!(write(b'P', 1, 1, list, room), Err(answer), "{lengths:?}");
-            assert_eq!(write(b'p', 1, 1, list, room), Err(14), "{lengths:?}");
+            assert_eq!(write(Terms::new(b'P', 1, 1), list, room), Err(answer), "{lengths:?}");
+            assert_eq!(write(Terms::new(b'p', 1, 1), list, room), Err(14), "{lengths:?}");
         }
     }
     for (form, length) in FORMS.into_iter().flat_map(|form| (32_766..=32_770).map(move |length| (form, length))) {
         let list = make::list_of_length(form, length);
-        assert_eq!(write(b'W', 1, 1, list.list(), 40_000).is_ok(), length <= 32_768);
+        let terms = Terms::new(b'W', 1, 1);
+        assert_eq!(write(terms, list.list(), 40_000).is_ok(), length <= 32_768);
+        assert_eq!(write(terms.by(u32::MAX), list.list(), 40_000), Err(11));
+        let shorter = make::list_of_length(form, length - 21);
+        assert_eq!(write(terms.by(u32::MAX), shorter.list(), 40_000).is_ok(), length <= 32_768);
     }
 }
 
@@ -204,17 +213,18 @@ fn plain_numbers() {
     for value in [0, 1, 9, 10, 65_536, 999_999_999, 1_000_000_000, most, most + 1, 2 * most + 3, 9_999_999_999] {
         for zeros in 0..=12 {
             let number = format!("{}{value}", "0".repeat(zeros));
-            for (form, field) in FORMS.into_iter().flat_map(|form| (0..make::FIELDS).map(move |field| (form, field))) {
-                let found = read(&make::in_field(form, field, &number), [1; 3]);
+            for (form, (columns, field)) in FORMS.into_iter().flat_map(|form| make::fields().map(move |of| (form, of)))
+            {
+                let found = read(&make::in_field(form, columns, field, &number), [1; 3]);
                 assert_eq!(found.is_ok(), number.len() <= 10 && value <= most, "{number}");
                 for malformed in [format!("{number}x"), format!(" {number}")] {
-                    assert_eq!(read(&make::in_field(form, field, &malformed), [1; 3]), Err(13));
+                    assert_eq!(read(&make::in_field(form, columns, field, &malformed), [1; 3]), Err(13));
                 }
             }
         }
     }
-    for field in 0..make::FIELDS {
-        assert_eq!(read(&make::in_field(Form::LastNumbers, field, ""), [1; 3]), Err(13));
+    for (columns, field) in make::fields() {
+        assert_eq!(read(&make::in_field(Form::LastNumbers, columns, field, ""), [1; 3]), Err(13));
     }
 }
 

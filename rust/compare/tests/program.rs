@@ -9,7 +9,7 @@ use std::process::{Child, Command, Output, Stdio};
 use compare::program::Program::{Assign, ChangeForm};
 use compare::program::{self, Feed, Program, TextFile, PROGRAMS};
 use compare::random::Random;
-use compare::{make, Count, Form, FORMS};
+use compare::{make, Count, Form, DEFAULT_INCREMENT, FORMS};
 
 const M: &[u8] = b"method,exercised,draw\nL,13,4855\naccount,short\n1,5\n2,8\n3,2\n4,10\n5,11\n";
 const M_LASTS: &[u8] = b"method,exercised,draw\nL,13,4855\naccount,last\n1,5\n2,13\n3,15\n4,25\n5,36\n";
@@ -108,6 +108,36 @@ fn codes() {
     }
 }
 
+const TENS: &str = include_str!("../../../examples/tens.txt");
+const TENS_PRINTED: &str = include_str!("../../../examples/tens.out");
+
+#[test]
+fn increments() {
+    let wheel = "account,assigned\n1,25\n2,40\n3,0\n";
+    for (text, printed) in [
+        (TENS, TENS_PRINTED),
+        (&TENS.replace(",10\n", ",0000000010\n"), TENS_PRINTED),
+        (&TENS.replace(",10\n", ",0\n"), "refused\n23\n"),
+        (&TENS.replace(",10\n", ",1000\n"), "account,assigned\n1,60\n2,5\n3,0\n"),
+        (&TENS.replace(",10\n", ",1001\n"), "refused\n23\n"),
+        (&TENS.replace(",10\n", ",4294967295\n"), "refused\n23\n"),
+        (&TENS.replace(",10\n", ",4294967296\n"), "refused\n13\n"),
+        (&TENS.replace(",10\n", ",\n"), "refused\n13\n"),
+        (&TENS.replace(",10\n", "\n"), "refused\n13\n"),
+        (&TENS.replace(",increment\n", "\n"), "refused\n13\n"),
+        (&TENS.replace(",increment\n", ",increments\n"), "refused\n12\n"),
+        (&TENS.replace(",increment\n", "\n").replace(",10\n", "\n"), wheel),
+        (&TENS.replace(",10\n", ",25\n"), wheel),
+        (&TENS.replace("W,65,1,10\n", "W,355,0,0\n"), "refused\n23\n"),
+        (&TENS.replace("W,65,1,10\n", "W,356,0,0\n"), "refused\n9\n"),
+        (&TENS.replace("W,65,1,10\n", "W,65,0,10\n"), "refused\n10\n"),
+        (&TENS.replace("W,65,1,10\n", "L,65,1,0\n"), "account,assigned\n1,60\n2,5\n3,0\n"),
+        (&TENS.replace("W,65,1,10\n", "W,1000001,1,1\n").replace(",200\n", ",1000000\n"), "refused\n24\n"),
+    ] {
+        prints_in_both_forms(text, &[Feed::Pipe, Feed::File], printed);
+    }
+}
+
 #[test]
 fn leading_zeros() {
     let m = "method,exercised,draw\nL,0013,0000004855\naccount,short\n0001,5\n0002,08\n03,002\n4,10\n0000000005,11\n";
@@ -157,7 +187,7 @@ fn changes_of_any_terms() {
 fn random_texts() {
     let mut random = Random::new(0xA551_0001);
     let mut counts = [Count::new("assign, random texts"), Count::new("change_form, random texts")];
-    let (mut coded, mut ranged, mut lasts) = (0, 0, 0);
+    let (mut coded, mut ranged, mut by_increment, mut lasts) = (0, 0, 0, 0);
     for case in 0..600 {
         let lines = make::lines(&mut random);
         let mut text = make::text(&mut random, lines);
@@ -171,16 +201,20 @@ fn random_texts() {
         changing.case(ChangeForm.compare(&text, feed));
         if assigning.case(Assign.compare(&text, feed)) {
             let series = reference::read_text(&text).expect("a series");
-            assigning.allocated(series.method, series.list(), series.exercised, series.draw);
+            assigning.allocated(series.terms, series.list());
             coded += u32::from(series.codes != series.accounts);
-            ranged += u32::from(series.method == b'R');
+            ranged += u32::from(series.terms.method == b'R');
+            by_increment += u32::from(series.terms.method == b'W' && series.terms.increment != DEFAULT_INCREMENT);
             lasts += u32::from(series.form == Form::LastNumbers);
         }
     }
     counts.iter().for_each(Count::print);
-    println!("assign, random texts: {coded} allocated with codes, {ranged} with ranges, {lasts} by last numbers");
+    println!(
+        "assign, random texts: {coded} allocated with codes, {ranged} with ranges, {by_increment} under W by another \
+         increment than 25, {lasts} by last numbers"
+    );
     assert!(!counts[0].undrawn().contains(&0));
-    assert!(coded > 20 && ranged > 20 && lasts > 50);
+    assert!(coded > 20 && ranged > 20 && by_increment > 10 && lasts > 50);
 }
 
 #[test]

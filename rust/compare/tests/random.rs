@@ -2,7 +2,7 @@
 
 use compare::make::{self, Series};
 use compare::random::Random;
-use compare::{Count, FORMS};
+use compare::{Count, Terms, FORMS};
 
 struct Size {
     what: &'static str,
@@ -16,13 +16,13 @@ fn run(size: Size) {
     let mut random = Random::new(size.seed);
     let mut count = Count::new(size.what);
     for _ in 0..size.series {
-        for make::Call { method, list, exercised, draw, room } in make::calls(&mut random, size.positions, size.total) {
-            count.allocate(method, list.list(), exercised, draw, room);
+        for make::Call { terms, list, room } in make::calls(&mut random, size.positions, size.total) {
+            count.allocate(terms, list.list(), room);
         }
     }
     count.print();
     assert!(!count.undrawn().contains(&0));
-    assert!(!count.met([1, 5, 6, 7, 19, 20]).contains(&0));
+    assert!(!count.met([1, 5, 6, 7, 19, 20, 23]).contains(&0));
 }
 
 #[test]
@@ -48,13 +48,14 @@ fn largest(what: &'static str, seed: u64) {
         let exact = random.one_in(2);
         let list = make::series(&mut random, positions, 10_000_000, exact);
         for method in make::METHODS {
-            let (exercised, draw) = make::terms(&mut random, method, positions, list.total());
+            let terms = make::terms(&mut random, method, positions, list.total());
             let list = make::coded(&mut random, method, &list).in_form(random.pick(&FORMS));
-            count.allocate(method, list.list(), exercised, draw, positions + 1);
+            count.allocate(terms, list.list(), positions + 1);
         }
     }
     count.print();
     assert!(!count.undrawn().contains(&0));
+    assert!(!count.met([23, 24]).contains(&0));
 }
 
 #[test]
@@ -77,11 +78,13 @@ fn halves_of_the_skip_interval() {
         let odd = random.between(1_600, 4_000) * 2 + 1;
         let (blocks, total) = (128 * j, j * odd);
         assert_eq!(total * 1_000_000 % blocks * 2, blocks);
-        let exercised = (25 * blocks - random.below(25)).min(total - 1);
+        let increment = if random.one_in(3) { 25 } else { random.between(1, total / blocks) };
+        let exercised = increment * blocks - random.below(increment);
         let list = make::series(&mut random, 60, total, true);
         let list = make::coded(&mut random, b'W', &list);
-        let draw = random.between(1, total) as u32;
-        count.allocate(b'W', list.list(), exercised as u32, draw, 60);
+        let terms = Terms::new(b'W', exercised as u32, random.between(1, total) as u32).by(increment as u32);
+        assert_eq!(u64::from(terms.blocks()), blocks);
+        count.allocate(terms, list.list(), 60);
     }
     count.print();
 }
@@ -103,7 +106,8 @@ fn ties_in_round_two() {
             _ => u32::MAX - random.below(100) as u32,
         };
         let list = make::coded(&mut random, b'P', &Series::by_account(make::upward(positions), shorts));
-        count.allocate(b'P', list.list(), exercised, draw, positions);
+        let terms = Terms::new(b'P', exercised, draw).by(make::increment(&mut random));
+        count.allocate(terms, list.list(), positions);
     }
     count.print();
 }
@@ -119,8 +123,9 @@ fn nearly_the_whole_wheel() {
         let list = make::series(&mut random, positions, total, true);
         let exercised = (total - random.between(1, total.min(80) - 1)) as u32;
         let list = make::coded(&mut random, b'W', &list);
-        let draw = random.between(1, total) as u32;
-        count.allocate(b'W', list.list(), exercised, draw, positions);
+        let increment = if random.one_in(3) { 25 } else { random.spread(1_000) as u32 };
+        let terms = Terms::new(b'W', exercised, random.between(1, total) as u32).by(increment);
+        count.allocate(terms, list.list(), positions);
     }
     count.print();
 }

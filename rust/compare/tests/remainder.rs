@@ -1,10 +1,11 @@
 // The remainder draw: its places and draws, its amounts beside those of L, and the ranges that are printed, by the
 // library's own answers.
 
+use compare::library::respond;
 use compare::make::{self, Series};
 use compare::program::{Feed, Program};
 use compare::random::Random;
-use compare::{library_form, Count, List, FORMS};
+use compare::{library_form, Count, List, Terms, DEFAULT_INCREMENT, FORMS};
 use dilbreth::{Allocated, Method};
 
 const MOST: u32 = 10_000_000;
@@ -16,8 +17,8 @@ const NAMES: &str = "account,first,last,first2,last2\n";
 fn started(method: Method, list: &Series, exercised: u32, draw: u32) -> (u32, Vec<u32>) {
     let mut amounts = vec![u32::MAX; list.numbers.len()];
     let Series { form, codes, accounts, numbers } = list;
-    let form = library_form(*form);
-    let answer = dilbreth::allocate(method, form, codes, accounts, numbers, exercised, draw, &mut amounts);
+    let (form, increment, out) = (library_form(*form), DEFAULT_INCREMENT, &mut amounts);
+    let answer = dilbreth::allocate(method, exercised, draw, increment, form, codes, accounts, numbers, out);
     let Allocated { total, further } = answer.expect("an allocation");
     assert_eq!(u64::from(total), list.total());
     (further, amounts)
@@ -90,7 +91,7 @@ fn draws_at_the_ends() {
                 for exercised in [1, total - 1] {
                     // The separate version steps through many contracts only where few are exercised.
                     if total < 100_000 || exercised == 1 {
-                        assert_eq!(count.allocate(b'R', list.list(), exercised, draw, 2), 0);
+                        assert_eq!(count.allocate(Terms::new(b'R', exercised, draw), list.list(), 2), 0);
                     }
                     assert_eq!(started(R, &list, exercised, draw).0, remainder(draw, total) + 1, "{draw} {total}");
                 }
@@ -167,19 +168,19 @@ fn refusals_are_those_of_l_without_10() {
     let mut random = Random::new(0x4E3A_0005);
     let mut count = Count::new("remainder draw, refusals of L");
     for _ in 0..15_000 {
-        for make::Call { method, list, exercised, draw, room } in make::calls(&mut random, 12, 400) {
-            if method == b'R' {
+        for make::Call { terms, list, room } in make::calls(&mut random, 12, 400) {
+            if terms.method == b'R' {
                 let other = random.bits() as u32;
-                let of_l = count.allocate(b'L', list.list(), exercised, 1, room);
-                for draw in [draw, 0, 10_001, u32::MAX, other] {
-                    assert_eq!(count.allocate(b'R', list.list(), exercised, draw, room), of_l);
+                let of_l = count.allocate(Terms { method: b'L', draw: 1, ..terms }, list.list(), room);
+                for draw in [terms.draw, 0, 10_001, u32::MAX, other] {
+                    assert_eq!(count.allocate(Terms { draw, ..terms }, list.list(), room), of_l);
                 }
             }
         }
     }
     count.print();
     assert!(!count.met([0, 1, 4, 5, 6, 7, 8, 9, 20]).contains(&0));
-    assert_eq!(count.met([10, 14, 19]), [0; 3]);
+    assert_eq!(count.met([10, 14, 19, 23]), [0; 4]);
 }
 
 #[test]
@@ -216,7 +217,8 @@ fn whole_series_and_one_position_have_no_place() {
                         assert_eq!(amounts, [exercised]);
                     }
                     if without {
-                        assert_eq!(count.allocate(b'R', list.list(), exercised, draw, positions as usize), 0);
+                        let terms = Terms::new(b'R', exercised, draw);
+                        assert_eq!(count.allocate(terms, list.list(), positions as usize), 0);
                     }
                 }
             }
@@ -225,15 +227,8 @@ fn whole_series_and_one_position_have_no_place() {
     count.print();
 }
 
-fn text_of(method: u8, list: &Series, exercised: u32, draw: u32) -> Vec<u8> {
-    reference::write(method, exercised, draw, list.list(), usize::MAX).expect("a text")
-}
-
-fn respond(text: &[u8]) -> String {
-    let mut output = vec![0; reference::MOST_PRINTED];
-    let length = dilbreth::respond(text, &mut output).expect("room enough");
-    output.truncate(length);
-    String::from_utf8(output).expect("ASCII")
+fn text_of(list: &Series, exercised: u32, draw: u32) -> Vec<u8> {
+    reference::write(Terms::new(b'R', exercised, draw), list.list(), usize::MAX).expect("a text")
 }
 
 // The rows of a table after its names line; each number has no zero in front.
@@ -256,7 +251,7 @@ fn common(from: u32, to: u32, first: u32, last: u32) -> u32 {
 // ranges.
 #[track_caller]
 fn ranges(list: &Series, exercised: u32, draw: u32) -> Vec<[u32; 5]> {
-    let [printed, by_last] = FORMS.map(|form| respond(&text_of(b'R', &list.in_form(form), exercised, draw)));
+    let [printed, by_last] = FORMS.map(|form| respond(&text_of(&list.in_form(form), exercised, draw)));
     assert_eq!(printed, by_last);
     assert!(printed.ends_with('\n'));
     let (assigned, table) = printed.split_at(printed.find(NAMES).expect("ranges"));
@@ -314,7 +309,7 @@ fn ranges_of_the_exhibit() {
     assert_eq!(found[6], [7, 156, 1_155, 1_342, 2_341]);
     assert_eq!((found[0], found[9]), ([1, 1, 1, 1_187, 1_187], [10, 1_167, 1_186, 2_353, 2_372]));
     assert_eq!(started(R, &list, 50, 395), (396, vec![0, 0, 0, 0, 0, 0, 50, 0, 0, 0]));
-    let text = text_of(b'R', &list, 50, 395);
+    let text = text_of(&list, 50, 395);
     assert_eq!(text, include_bytes!("../../../examples/remainder-draw.txt"));
     assert_eq!(respond(&text), include_str!("../../../examples/remainder-draw.out"));
 }
@@ -366,10 +361,10 @@ fn outputs_of_every_length() {
     for list in lists {
         let total = list.total() as u32;
         for (exercised, draw) in [(1, 395), (total - 1, u32::MAX), (total, 0)] {
-            every_room(&mut count, &text_of(b'R', &list, exercised, draw), 0..320);
+            every_room(&mut count, &text_of(&list, exercised, draw), 0..320);
         }
     }
-    for refused in [text_of(b'R', &Series::by_account(vec![9, 9], vec![5, 5]), 1, 1), b"R".to_vec()] {
+    for refused in [text_of(&Series::by_account(vec![9, 9], vec![5, 5]), 1, 1), b"R".to_vec()] {
         every_room(&mut count, &refused, 0..80);
     }
     count.print();
@@ -395,13 +390,13 @@ fn the_largest_output() {
     for (exercised, draw) in [(MOST, 0), (MOST - 1, 0), (MOST - 1, u32::MAX), (MOST / 2, 4_999_999), (1, 77)] {
         let found = ranges(&list, exercised, draw);
         assert_eq!(found[1_023][2..], [MOST, 2 * MOST - 999, 2 * MOST]);
-        let text = text_of(b'R', &list, exercised, draw);
+        let text = text_of(&list, exercised, draw);
         let needed = respond(&text).len();
         most = most.max(needed);
         let rooms = [0, 17, 18, needed / 2, needed - 1, needed, needed + 1, reference::MOST_PRINTED, 100_000];
         every_room(&mut count, &text, rooms.into_iter());
         for (form, feed) in FORMS.into_iter().zip([Feed::Pipe, Feed::File]) {
-            let text = text_of(b'R', &list.in_form(form), exercised, draw);
+            let text = text_of(&list.in_form(form), exercised, draw);
             assert_eq!(Program::Assign.compare(&text, feed), Ok(true));
         }
     }
@@ -418,8 +413,9 @@ fn random_ranges() {
         let positions = if case % 10 == 0 { random.between(1_000, 1_024) } else { random.spread(200) };
         let most = positions.max(random.spread(if case % 25 == 0 { u64::from(MOST) } else { 100_000 }));
         let list = make::series(&mut random, positions as usize, most, true);
-        let (exercised, draw) = make::terms(&mut random, b'R', positions as usize, most);
-        let text = text_of(b'R', &list, exercised, draw);
+        let terms = make::terms(&mut random, b'R', positions as usize, most);
+        let Terms { exercised, draw, .. } = terms;
+        let text = reference::write(terms, list.list(), usize::MAX).expect("a text");
         if (1..=most).contains(&u64::from(exercised)) {
             ranges(&list, exercised, draw);
         } else {
@@ -436,15 +432,15 @@ fn random_ranges() {
 fn codes_are_not_looked_at() {
     let mut random = Random::new(0x4E3A_000A);
     let list = make::series(&mut random, 9, 300, true);
-    let expected = respond(&text_of(b'R', &list, 77, 200));
+    let expected = respond(&text_of(&list, 77, 200));
     for code in [0, 1, u32::MAX] {
         let coded = Series { codes: vec![code; 9], ..list.clone() };
-        let text = text_of(b'R', &coded, 77, 200);
+        let text = text_of(&coded, 77, 200);
         assert!(make::has_codes(&text));
         assert_eq!(respond(&text), expected);
     }
     let none = List { codes: &[], ..list.list() };
-    assert_eq!(compare::allocate(b'R', none, 77, 200, 9), Ok(0));
+    assert_eq!(compare::allocate(Terms::new(b'R', 77, 200), none, 9), Ok(0));
 }
 
 #[test]
@@ -458,9 +454,7 @@ fn no_ranges_but_for_an_allocation_under_r() {
             make::damage(&mut random, &mut text);
         }
         for (method, count) in make::METHODS.into_iter().zip(&mut printed) {
-            if let Some(letter) = text.get_mut(22) {
-                *letter = method;
-            }
+            make::put_method(&mut text, method);
             let found = respond(&text);
             let allocated = found.starts_with("account,assigned\n");
             assert_eq!(found.contains("first") || found.matches("account").count() > 1, method == b'R' && allocated);

@@ -1,38 +1,7 @@
 // Over all starting places a position gets its shorts × S, by the library's own amounts.
 
 use compare::random::Random;
-use compare::{library_form, make, List, FORMS};
-use dilbreth::Method;
-
-// Answers whether each starting place was handed back.
-fn shares(method: Method, list: List, exercised: u32, total: u32) -> bool {
-    let List { codes, accounts, numbers, .. } = list;
-    let (form, shorts) = (library_form(list.form), list.shorts());
-    let mut amounts = vec![0; shorts.len()];
-    let mut sums = vec![0u64; shorts.len()];
-    // A whole series and one position have no starting place.
-    let started = method != Method::Wheel && exercised < total && shorts.len() > 1;
-    for place in 1..=total {
-        // Under L and R a draw that leads to the place; under L there is one where T is at most 10,000.
-        let draw = match method {
-            Method::Lottery => place * 10_000 / total,
-            Method::RemainderDraw => place - 1,
-            _ => place,
-        };
-        let answer = dilbreth::allocate(method, form, codes, accounts, numbers, exercised, draw, &mut amounts);
-        let answer = answer.expect("an allocation");
-        if method != Method::Wheel {
-            assert_eq!(answer.further, if started { place } else { 0 });
-        }
-        for (sum, &amount) in sums.iter_mut().zip(&amounts) {
-            *sum += u64::from(amount);
-        }
-    }
-    for (sum, &short) in sums.iter().zip(&shorts) {
-        assert_eq!(*sum, u64::from(short) * u64::from(exercised), "{method:?} {shorts:?} S {exercised}");
-    }
-    started
-}
+use compare::{make, Terms, FORMS};
 
 #[test]
 fn every_starting_place() {
@@ -43,10 +12,12 @@ fn every_starting_place() {
             let positions = random.between(1, 12.min(most)) as usize;
             let list = make::series(&mut random, positions, most, true);
             let exercised = random.between(1, most) as u32;
-            for (by, method) in [Method::Wheel, Method::Lottery, Method::RemainderDraw].into_iter().enumerate() {
-                let list = make::coded(&mut random, method.byte(), &list).in_form(random.pick(&FORMS));
+            let increment = if random.one_in(3) { 25 } else { random.spread(1_000) as u32 };
+            for (by, method) in b"WLR".iter().copied().enumerate() {
+                let list = make::coded(&mut random, method, &list).in_form(random.pick(&FORMS));
                 for exercised in [exercised, most as u32 - 1, most as u32] {
-                    started[by] += u32::from(shares(method, list.list(), exercised, most as u32));
+                    let terms = Terms::new(method, exercised, 0).by(increment);
+                    started[by] += u32::from(compare::shares(terms, &list));
                     series += 1;
                 }
             }

@@ -1,9 +1,13 @@
-// Every list with T up to 7, every S from 0 to T + 1; every list of up to three codes and accounts from 0 to 3; every
-// list of up to four last numbers from 0 to 5.
+// Every list with T up to 7, every S from 0 to T + 1, under W every increment from 0 to 8 and some others; every list of up
+// to three codes and accounts from 0 to 3; every list of up to four last numbers from 0 to 5.
 
-use compare::{make, Count, Form, List, FORMS};
+use compare::{make, Count, Form, List, Terms, FORMS};
 
-// `undrawn` is how many whole series, and others of one position, are allocated with a draw out of range.
+// Of W; three of them are refused.
+const INCREMENTS: [u32; 14] = [0, 1, 2, 3, 4, 5, 6, 7, 8, 25, 999, 1_000, 1_001, u32::MAX];
+
+// W takes each draw with every increment, the others with one that they do not look at. `undrawn` is how many whole
+// series, and others of one position, are allocated with a draw out of range.
 fn all(what: &'static str, method: u8, undrawn: [u64; 2], draws: impl Fn(u32) -> Vec<u32>) {
     let mut count = Count::new(what);
     let mut series = 0;
@@ -14,7 +18,10 @@ fn all(what: &'static str, method: u8, undrawn: [u64; 2], draws: impl Fn(u32) ->
             for exercised in 0..=total + 1 {
                 for &draw in &draws {
                     let room = list.numbers.len() + (draw % 3) as usize;
-                    count.allocate(method, list.list(), exercised, draw, room);
+                    let any = draw as usize % INCREMENTS.len();
+                    for &increment in if method == b'W' { &INCREMENTS } else { &INCREMENTS[any..=any] } {
+                        count.allocate(Terms::new(method, exercised, draw).by(increment), list.list(), room);
+                    }
                 }
             }
         }
@@ -26,8 +33,8 @@ fn all(what: &'static str, method: u8, undrawn: [u64; 2], draws: impl Fn(u32) ->
 
 #[test]
 fn every_small_wheel() {
-    // Draws 0, T + 1, 10,000, 10,001 and the largest.
-    let undrawn = [127 * 5, 0];
+    // Draws 0, T + 1, 10,000, 10,001 and the largest, each with the increments that are not refused.
+    let undrawn = [127 * 5 * (INCREMENTS.len() as u64 - 3), 0];
     all("small W", b'W', undrawn, |total| (0..=total + 1).chain([10_000, 10_001, u32::MAX]).collect());
 }
 
@@ -74,7 +81,7 @@ fn every_small_list_of_codes_and_accounts() {
                 let list = List { codes: &codes, ..List::by_account(&accounts, shorts) };
                 for (method, accepted) in make::METHODS.into_iter().zip(&mut accepted) {
                     for (exercised, draw) in [(total, 0), (total - 1, 2), (1, 0), (total + 1, 1)] {
-                        let number = count.allocate(method, list, exercised, draw, length);
+                        let number = count.allocate(Terms::new(method, exercised, draw), list, length);
                         *accepted += u64::from(exercised == total && number == 0);
                     }
                 }
@@ -100,10 +107,10 @@ fn every_small_list_of_last_numbers() {
         for method in make::METHODS {
             for exercised in 0..=total + 1 {
                 for draw in 0..=total + 1 {
-                    count.allocate(method, list, exercised, draw, numbers.len());
+                    count.allocate(Terms::new(method, exercised, draw).by(1 + total / 2), list, numbers.len());
                 }
             }
-            let found = count.allocate(method, list, total.max(1), 1, numbers.len());
+            let found = count.allocate(Terms::new(method, total.max(1), 1), list, numbers.len());
             assert!(found == 0 || found == 20, "{found}: {numbers:?}");
             rising[length as usize] += u32::from(found == 0);
         }
@@ -122,11 +129,13 @@ fn every_small_length_of_codes_and_accounts() {
             let list = List { codes: &numbers[..c], ..List::by_account(&[3, 1, 2][..a], &[4, 5, 6][..s]) };
             let other = List { codes: &[3, 1, 2][..c], ..List::by_account(&numbers[..a], &[4, 5, 6][..s]) };
             for method in *b"WPLRX" {
+                let terms = Terms::new(method, 1, 1);
                 for list in [list, other] {
-                    count.allocate(method, list, 1, 1, room);
+                    count.allocate(terms, list, room);
                 }
                 for form in FORMS {
-                    count.case(compare::write(method, 1, 1, List { form, ..list }, 20 * room + 40));
+                    count.case(compare::write(terms, List { form, ..list }, 20 * room + 40));
+                    count.case(compare::write(terms.by(0), List { form, ..list }, 20 * room + 40));
                 }
             }
         }

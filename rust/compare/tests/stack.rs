@@ -2,7 +2,7 @@
 
 use compare::make::{self, Series};
 use compare::random::Random;
-use compare::{library_form, FORMS};
+use compare::{library_form, Terms, DEFAULT_INCREMENT, FORMS};
 use dilbreth::calls;
 
 fn on_a_small_stack(call: impl FnOnce() + Send + 'static) {
@@ -10,7 +10,7 @@ fn on_a_small_stack(call: impl FnOnce() + Send + 'static) {
 }
 
 // All of 4,096 positions with 2,441 contracts each, in both forms.
-fn allocate(method: u8, codes: Vec<u32>, accounts: Vec<u32>) {
+fn allocate(method: u8, increment: u32, codes: Vec<u32>, accounts: Vec<u32>) {
     let list = Series::coded(codes, accounts, vec![2_441; 4_096]);
     let lists = FORMS.map(|form| list.in_form(form));
     for (list, (s, draw)) in lists.iter().flat_map(|list| [(list, (4_999_999, 10_000)), (list, (9_998_336, 0))]) {
@@ -20,7 +20,7 @@ fn allocate(method: u8, codes: Vec<u32>, accounts: Vec<u32>) {
         on_a_small_stack(move || {
             let (mut total, mut further) = (0, 0);
             let (out, t, f) = (&mut amounts, &mut total, &mut further);
-            let number = calls::allocate(method, form, &codes, &accounts, &numbers, s, draw, out, t, f);
+            let number = calls::allocate(method, s, draw, increment, form, &codes, &accounts, &numbers, out, t, f);
             assert_eq!((number, total), (0, 9_998_336));
             assert_eq!(amounts.iter().sum::<u32>(), s);
         });
@@ -30,7 +30,11 @@ fn allocate(method: u8, codes: Vec<u32>, accounts: Vec<u32>) {
 #[test]
 fn allocating() {
     for method in make::METHODS {
-        allocate(method, make::upward(4_096), make::upward(4_096));
+        allocate(method, DEFAULT_INCREMENT, make::upward(4_096), make::upward(4_096));
+    }
+    // As many blocks as may be, and few.
+    for increment in [5, 1_000] {
+        allocate(b'W', increment, make::upward(4_096), make::upward(4_096));
     }
 }
 
@@ -39,13 +43,14 @@ fn allocating_by_code() {
     let mut random = Random::new(0x57AC_0001);
     let mut accounts = make::upward(4_096);
     accounts.reverse();
-    allocate(b'W', make::upward(4_096), accounts.clone());
+    let by_code = |codes, accounts| allocate(b'W', DEFAULT_INCREMENT, codes, accounts);
+    by_code(make::upward(4_096), accounts.clone());
     for _ in 0..4 {
         make::shuffle(&mut random, &mut accounts);
-        allocate(b'W', make::rising(&mut random, 4_096), accounts.clone());
+        by_code(make::rising(&mut random, 4_096), accounts.clone());
     }
-    allocate(b'W', make::upward(4_096), make::sharing_low_bits(&mut random, 4_096, 20));
-    allocate(b'W', make::upward(4_096), make::sharing_upper_bits_of_product(&mut random, 4_096));
+    by_code(make::upward(4_096), make::sharing_low_bits(&mut random, 4_096, 20));
+    by_code(make::upward(4_096), make::sharing_upper_bits_of_product(&mut random, 4_096));
 }
 
 fn respond(text: Vec<u8>) {
@@ -64,7 +69,10 @@ fn responding() {
     let list = Series::by_account(make::upward(1_024), vec![977; 1_024]);
     for form in FORMS {
         for method in make::METHODS {
-            respond(reference::write(method, 700_000, 5, list.in_form(form).list(), usize::MAX).expect("a text"));
+            for increment in [DEFAULT_INCREMENT, 1] {
+                let terms = Terms::new(method, 700_000, 5).by(increment);
+                respond(reference::write(terms, list.in_form(form).list(), usize::MAX).expect("a text"));
+            }
         }
         respond(make::text_of_length(form, 32_768));
     }
@@ -76,7 +84,8 @@ fn responding_with_ranges() {
     let list = Series::by_account(accounts, vec![9_765; 1_024]);
     for (exercised, draw) in [(9_999_360, 0), (9_999_359, u32::MAX), (1, 9_999_360)] {
         for form in FORMS {
-            respond(reference::write(b'R', exercised, draw, list.in_form(form).list(), usize::MAX).expect("a text"));
+            let terms = Terms::new(b'R', exercised, draw).by(u32::MAX);
+            respond(reference::write(terms, list.in_form(form).list(), usize::MAX).expect("a text"));
         }
     }
 }
@@ -87,9 +96,11 @@ fn reading_and_writing() {
         on_a_small_stack(move || {
             let [mut codes, mut accounts, mut numbers] = [(); 3].map(|_| vec![0; 1_024]);
             let terms = dilbreth::read(&text, &mut codes, &mut accounts, &mut numbers).expect("a series");
+            let dilbreth::Terms { method, exercised, draw, increment, form, positions } = terms;
             let mut out = vec![0; 32_768];
-            let length = dilbreth::write(terms.method, 500_000, 77, terms.form, &codes, &accounts, &numbers, &mut out);
-            assert_eq!((terms.positions, length.is_ok()), (1_024, true));
+            let text = &mut out;
+            let length = dilbreth::write(method, exercised, draw, increment, form, &codes, &accounts, &numbers, text);
+            assert_eq!((positions, length.is_ok()), (1_024, true));
         });
     }
 }
@@ -101,7 +112,7 @@ fn changing() {
     let colliding = make::sharing_upper_bits_of_product(&mut random, 1_024);
     let list = Series::coded(make::rising(&mut random, 1_024), colliding, vec![9_765; 1_024]);
     let [shorts, lasts] = FORMS.map(|form| {
-        let text = reference::write(b'W', 1, 1, list.in_form(form).list(), usize::MAX).expect("a text");
+        let text = reference::write(Terms::new(b'W', 1, 1), list.in_form(form).list(), usize::MAX).expect("a text");
         [text, make::text_of_length(form, 32_768)]
     });
     for text in shorts.into_iter().chain(lasts) {
@@ -125,7 +136,7 @@ fn a_day_the_words_and_the_version() {
         assert_eq!(calls::process_market_maker(1, 9, 8, 7, 6, &mut limit), 0);
         assert_eq!(limit, 2);
         let mut line = [0; 50];
-        assert_eq!((0..=21).map(|number| calls::explain(number, &mut line)).max(), Some(50));
+        assert_eq!((0..=25).map(|number| calls::explain(number, &mut line)).max(), Some(50));
         assert_eq!(dilbreth::version(), dilbreth::VERSION);
     });
 }

@@ -1,8 +1,9 @@
 // Texts, two of three damaged, through reading, writing, changing and responding.
 
-use compare::make::{self, Series};
+use compare::library::respond;
+use compare::make::{self, Columns, Field, Series, COLUMNS};
 use compare::random::Random;
-use compare::{library_form, Count, Form, List, FORMS};
+use compare::{library_form, Count, Form, List, Terms, DEFAULT_INCREMENT, FORMS, LAST_REFUSAL};
 use dilbreth::Refused;
 
 // Rooms around what is needed.
@@ -43,11 +44,11 @@ fn through(random: &mut Random, text: &[u8], counts: &mut Counts) {
     }
     if let Ok(s) = series {
         if !printed.starts_with(b"refused") {
-            responding.allocated(s.method, s.list(), s.exercised, s.draw);
+            responding.allocated(s.terms, s.list());
         }
-        let written = reference::write(s.method, s.exercised, s.draw, s.list(), usize::MAX).unwrap();
+        let written = reference::write(s.terms, s.list(), usize::MAX).unwrap();
         for room in rooms(random, written.len()) {
-            writing.case(compare::write(s.method, s.exercised, s.draw, s.list(), room));
+            writing.case(compare::write(s.terms, s.list(), room));
         }
         written_shorter(text, &written);
         assert_eq!(reference::read_text(&written), Ok(s));
@@ -59,58 +60,76 @@ fn through(random: &mut Random, text: &[u8], counts: &mut Counts) {
     }
 }
 
-// What is written for a text that reads is the text itself, or shorter where that has leading zeros, or a column of
-// codes that are the accounts.
+// What is written for a text that reads is the text itself, or shorter where that has leading zeros, a column of codes
+// that are the accounts, or one with the increment 25.
 fn written_shorter(text: &[u8], written: &[u8]) {
     let shown = String::from_utf8_lossy(text);
-    let left_out = make::has_codes(text) && !make::has_codes(written);
+    let left_out = make::columns(text) != make::columns(written);
     assert!(!make::leading_zeros(written).contains(&true), "{shown}");
     if make::leading_zeros(text).contains(&true) || left_out {
         assert!(written.len() < text.len(), "{shown}");
     } else {
         assert_eq!(written, text, "{shown}");
     }
-    let series = reference::read_text(text).expect("a series");
-    assert_eq!(make::has_codes(written), series.codes != series.accounts, "{shown}");
+    assert_eq!(make::columns(written), columns_to_write(&reference::read_text(text).expect("a series")), "{shown}");
+}
+
+fn columns_to_write(series: &reference::Series) -> Columns {
+    let increment = series.terms.increment != DEFAULT_INCREMENT;
+    Columns { increment, codes: series.codes != series.accounts }
 }
 
 // Counts the spellings of whole texts.
 #[derive(Default)]
 struct Spellings {
-    zeros: [u32; make::FIELDS],
+    // By the columns of the text.
+    zeros: [[u32; make::FIELDS]; COLUMNS.len()],
     none: u32,
     all_in_ten: u32,
-    // By shorts and by last numbers: without a column of codes, with one that is left out in writing, and with one that
-    // is written.
-    columns: [[u32; 3]; 2],
+    // By shorts and by last numbers: without the column of codes, with one that is left out in writing, and with one that
+    // is written; and the same of the increment.
+    codes: [[u32; 3]; 2],
+    increments: [[u32; 3]; 2],
 }
 
 impl Spellings {
     fn add(&mut self, text: &[u8]) {
         let zeros = make::leading_zeros(text);
-        for (count, found) in self.zeros.iter_mut().zip(zeros) {
+        let columns = make::columns(text);
+        let at = COLUMNS.iter().position(|of| *of == columns).expect("columns");
+        for (count, found) in self.zeros[at].iter_mut().zip(zeros) {
             *count += u32::from(found);
         }
         self.none += u32::from(!zeros.contains(&true));
         self.all_in_ten += u32::from(make::numbers(text).iter().all(|(from, to)| to - from == 10));
         let series = reference::read_text(text).expect("a series");
-        let codes = u32::from(make::has_codes(text)) + u32::from(series.codes != series.accounts);
-        self.columns[library_form(series.form).number() as usize][codes as usize] += 1;
+        let to_write = columns_to_write(&series);
+        let form = library_form(series.form).number() as usize;
+        self.codes[form][usize::from(columns.codes) + usize::from(to_write.codes)] += 1;
+        self.increments[form][usize::from(columns.increment) + usize::from(to_write.increment)] += 1;
+    }
+
+    // How many texts have leading zeros in each field that there is.
+    fn zeros(&self) -> impl Iterator<Item = (Columns, Field, u32)> + '_ {
+        make::fields().map(|(columns, field)| {
+            let at = COLUMNS.iter().position(|of| *of == columns).expect("columns");
+            (columns, field, self.zeros[at][field as usize])
+        })
     }
 
     fn print(&self) {
-        let [exercised, draw, accounts, numbers, coded @ ..] = self.zeros;
-        println!(
-            "whole texts with leading zeros: in S {exercised}, draw {draw}, accounts {accounts}, numbers {numbers}; \
-             every number in ten digits {}; no leading zero {}",
-            self.all_in_ten, self.none
-        );
-        println!("whole texts with codes and leading zeros: in S, draw, codes, accounts, numbers {coded:?}");
-        for (form, [without, left_out, written]) in FORMS.into_iter().zip(self.columns) {
-            println!(
-                "whole texts, {form:?}: {without} without codes, {left_out} with codes that are the accounts, {written} \
-                 with others"
-            );
+        println!("whole texts: every number in ten digits {}; no leading zero {}", self.all_in_ten, self.none);
+        for of in COLUMNS {
+            let fields = self.zeros().filter(|(columns, ..)| *columns == of);
+            let shown: Vec<String> = fields.map(|(_, field, texts)| format!("{field:?} {texts}")).collect();
+            println!("whole texts with {of:?} and leading zeros: {}", shown.join(", "));
+        }
+        for (what, counts) in [("codes that are the accounts", self.codes), ("increment 25", self.increments)] {
+            for (form, [without, left_out, written]) in FORMS.into_iter().zip(counts) {
+                println!(
+                    "whole texts, {form:?}: {without} without the column, {left_out} with {what}, {written} with others"
+                );
+            }
         }
     }
 }
@@ -118,8 +137,9 @@ impl Spellings {
 // How many texts reading and changing refuse by each number.
 #[derive(Default)]
 struct Refusals {
-    reading: [u32; 21],
-    changing: [u32; 21],
+    reading: [u32; LAST_REFUSAL + 1],
+    changing: [u32; LAST_REFUSAL + 1],
+    responding: [u32; LAST_REFUSAL + 1],
 }
 
 impl Refusals {
@@ -127,15 +147,19 @@ impl Refusals {
         let met = |answer: Option<u32>| answer.unwrap_or(0) as usize;
         self.reading[met(reference::read_text(text).err())] += 1;
         self.changing[met(reference::change(text, usize::MAX).err())] += 1;
+        let printed = String::from_utf8(reference::printed(text)).expect("ASCII");
+        let number = printed.strip_prefix("refused\n").map(|number| number.trim_end().parse().expect("a number"));
+        self.responding[met(number)] += 1;
     }
 
     fn print(&self) {
-        let shown = |met: &[u32; 21]| {
+        let shown = |met: &[u32]| {
             let met = (1..).zip(&met[1..]).filter(|(_, &texts)| texts > 0);
             met.map(|(number, texts)| format!("{number}: {texts}")).collect::<Vec<_>>().join(", ")
         };
         println!("texts refused in reading by {}", shown(&self.reading));
         println!("texts refused in changing by {}", shown(&self.changing));
+        println!("texts refused in responding by {}", shown(&self.responding));
     }
 }
 
@@ -168,7 +192,7 @@ fn random_texts() {
             damaged += 1;
         }
         refusals.add(&text);
-        let under_r = reference::read_text(&text).is_ok_and(|series| series.method == b'R');
+        let under_r = reference::read_text(&text).is_ok_and(|series| series.terms.method == b'R');
         ranged += u32::from(under_r && reference::printed(&text).starts_with(b"account"));
         through(&mut random, &text, &mut counts);
     }
@@ -176,10 +200,15 @@ fn random_texts() {
     refusals.print();
     assert!(ranged > 1_000);
     assert!([11, 12, 13, 14, 15].iter().all(|&number| refusals.reading[number] > 50));
-    assert!([0, 3, 5, 6, 7, 11, 12, 13, 14, 15, 19, 20].iter().all(|&number| refusals.changing[number] > 50));
+    let of_list = [0, 3, 5, 6, 7, 11, 12, 13, 14, 15, 19, 20];
+    assert!(of_list.iter().all(|&number| refusals.changing[number] > 50));
+    assert!(of_list.iter().chain(&[8, 9, 10, 23]).all(|&number| refusals.responding[number] > 50));
+    // The change judges no increment.
+    assert_eq!(refusals.changing[23..], [0, 0]);
     spellings.print();
-    let Spellings { zeros, none, all_in_ten, columns } = spellings;
-    assert!(zeros.into_iter().chain([none, all_in_ten]).chain(columns.into_iter().flatten()).all(|n| n > 1_000));
+    let Spellings { none, all_in_ten, codes, increments, .. } = spellings;
+    assert!(spellings.zeros().all(|(.., texts)| texts > 500));
+    assert!([none, all_in_ten].into_iter().chain([codes, increments].concat().concat()).all(|texts| texts > 1_000));
     let Counts { reading, writing, changing, responding } = counts;
     for count in [&reading, &writing, &changing, &responding] {
         count.print();
@@ -192,14 +221,16 @@ const CODED: &[u8] = b"method,exercised,draw\nW,13,4\ncode,account,short\n3,21,6
 const RANGED: &[u8] = b"method,exercised,draw\nR,13,49\naccount,short\n1,5\n20,8\n300,12\n";
 const LASTS: &[u8] = b"method,exercised,draw\nR,13,49\naccount,last\n1,5\n20,13\n300,25\n";
 const CODED_LASTS: &[u8] = b"method,exercised,draw\nW,13,4\ncode,account,last\n3,21,6\n7,4,26\n12,11,35\n";
-const TEXTS: [&[u8]; 5] = [M, CODED, RANGED, LASTS, CODED_LASTS];
+const BY_TENS: &[u8] = b"method,exercised,draw,increment\nW,26,7,10\naccount,short\n1,5\n20,38\n";
+const CODED_BY_ONES: &[u8] = b"method,exercised,draw,increment\nW,13,4,1\ncode,account,last\n3,21,6\n7,4,35\n";
+const TEXTS: [&[u8]; 7] = [M, CODED, RANGED, LASTS, CODED_LASTS, BY_TENS, CODED_BY_ONES];
 
 #[test]
 fn cut_at_every_place() {
     let mut count = Count::new("texts cut");
     for text in TEXTS {
         for end in 0..=text.len() {
-            for start in [0, 1, 22] {
+            for start in [0, 1, 22, 32] {
                 let part = &text[start.min(end)..end];
                 count.case(compare::read(part, [5; 3]));
                 count.case(compare::read(part, [1, 1, 0]));
@@ -238,6 +269,43 @@ fn every_byte_at_every_place() {
         }
     }
     count.print();
+}
+
+// Each line 1, and lines that are nearly one, over line 2 with two to five fields.
+#[test]
+fn line_1_and_its_columns() {
+    let mut count = Count::new("line 1 and its columns");
+    let columns = ["method", "exercised", "draw", "increment", "increments", "Increment", "", " ", "draw "];
+    let mut names = ["method,exercised,draw\r\n", "method,exercised,draw", "method,exercised,draw,increment\r\n"]
+        .map(String::from)
+        .to_vec();
+    names.extend(["method,exercised,draw,increment".to_string(), "method,exercised,draw,increment,\n".to_string()]);
+    for a in columns {
+        names.push(format!("{a}\n"));
+        names.push(format!("method,exercised,{a}\n"));
+        for b in columns {
+            names.push(format!("{a},{b}\n"));
+            names.push(format!("method,{a},{b}\n"));
+            names.push(format!("method,exercised,{a},{b}\n"));
+            names.push(format!("{a},exercised,draw,{b}\n"));
+            names.push(format!("method,exercised,draw,{a},{b}\n"));
+        }
+    }
+    names.sort();
+    names.dedup();
+    let mut exact = [0; 2];
+    for line_1 in &names {
+        for line_2 in ["W,1", "W,1,1", "W,1,1,1", "W,1,1,25", "W,1,1,1,1", "X,1,1", "X,1,1,1", "X,1,1,1,1", "W,1,1,"] {
+            let text = format!("{line_1}{line_2}\naccount,short\n1,5\n");
+            let read = count.case(compare::read(text.as_bytes(), [4; 3]));
+            exact[usize::from(make::has_increment(text.as_bytes()))] += u32::from(read);
+            count.case(compare::change(text.as_bytes(), 80));
+            count.case(compare::respond(text.as_bytes(), 60));
+        }
+    }
+    count.print();
+    // Three fields under the one, four under the other.
+    assert_eq!(exact, [1, 2]);
 }
 
 // Each line 3, and lines that are nearly one, over position lines with two, three and four numbers.
@@ -338,28 +406,40 @@ const NUMBERS: &[&str] = &[
 fn numbers_in_every_field() {
     let mut count = Count::new("numbers");
     let long = ["9".repeat(30_000), "0".repeat(30_000), "0".repeat(30_000) + "1"];
+    let three_fields = [
+        ("X,", ",5\naccount,short\n1,7\n"),
+        ("W,", ",5\naccount,short\n1,7\n"),
+        ("P,1,", "\naccount,short\n1,7\n"),
+        ("W,1,", "\naccount,short\n1,7\n"),
+        ("W,7,", "\naccount,short\n1,7\n"),
+        ("L,1,", "\naccount,short\n1,7\n"),
+        ("L,1,", "\naccount,short\n1,7\n2,1\n"),
+        ("R,1,", "\naccount,short\n1,7\n"),
+        ("R,1,", "\naccount,short\n1,7\n2,1\n"),
+        ("R,", ",5\naccount,short\n1,7\n2,1\n"),
+        ("R,1,5\naccount,short\n1,7\n2,", "\n3,3\n"),
+        ("W,1,5\naccount,short\n", ",7\n"),
+        ("L,1,5\naccount,short\n1,7\n2,", "\n3,3\n"),
+        ("W,1,5\ncode,account,short\n", ",2,7\n"),
+        ("P,1,5\ncode,account,short\n9,2,7\n", ",3,7\n"),
+        ("W,1,5\ncode,account,short\n9,", ",7\n"),
+        ("W,1,5\ncode,account,short\n8,1,7\n9,", ",7\n10,2,7\n"),
+        ("W,1,5\ncode,account,short\n9,2,", "\n"),
+    ];
+    let four_fields = [
+        ("X,1,5,", "\naccount,short\n1,7\n"),
+        ("W,1,5,", "\naccount,short\n1,7\n"),
+        ("W,7,5,", "\naccount,short\n1,7\n"),
+        ("W,1,0,", "\naccount,short\n1,7\n"),
+        ("W,8,5,", "\naccount,short\n1,7\n"),
+        ("L,1,5,", "\naccount,short\n1,7\n2,1\n"),
+        ("R,1,", ",9\ncode,account,short\n9,2,7\n"),
+        ("W,", ",5,3\ncode,account,short\n9,2,7\n"),
+    ];
+    let places = three_fields.map(|place| (false, place)).into_iter().chain(four_fields.map(|place| (true, place)));
     for number in NUMBERS.iter().copied().chain(long.iter().map(String::as_str)) {
-        for (before, after) in [
-            ("X,", ",5\naccount,short\n1,7\n"),
-            ("W,", ",5\naccount,short\n1,7\n"),
-            ("P,1,", "\naccount,short\n1,7\n"),
-            ("W,1,", "\naccount,short\n1,7\n"),
-            ("W,7,", "\naccount,short\n1,7\n"),
-            ("L,1,", "\naccount,short\n1,7\n"),
-            ("L,1,", "\naccount,short\n1,7\n2,1\n"),
-            ("R,1,", "\naccount,short\n1,7\n"),
-            ("R,1,", "\naccount,short\n1,7\n2,1\n"),
-            ("R,", ",5\naccount,short\n1,7\n2,1\n"),
-            ("R,1,5\naccount,short\n1,7\n2,", "\n3,3\n"),
-            ("W,1,5\naccount,short\n", ",7\n"),
-            ("L,1,5\naccount,short\n1,7\n2,", "\n3,3\n"),
-            ("W,1,5\ncode,account,short\n", ",2,7\n"),
-            ("P,1,5\ncode,account,short\n9,2,7\n", ",3,7\n"),
-            ("W,1,5\ncode,account,short\n9,", ",7\n"),
-            ("W,1,5\ncode,account,short\n8,1,7\n9,", ",7\n10,2,7\n"),
-            ("W,1,5\ncode,account,short\n9,2,", "\n"),
-        ] {
-            let text = ["method,exercised,draw\n", before, number, after].concat();
+        for (increments, (before, after)) in places.clone() {
+            let text = [make::names_1(increments), before, number, after].concat();
             for text in [text.replace("short", "last"), text] {
                 count.case(compare::read(text.as_bytes(), [4; 3]));
                 count.case(compare::read(text.as_bytes(), [4, 0, 4]));
@@ -372,23 +452,32 @@ fn numbers_in_every_field() {
 }
 
 // What the library reads for a number in a field of a text.
-fn read_in_field(form: Form, field: usize, number: &str) -> Result<u32, Refused> {
-    let ([mut codes, mut accounts, mut numbers], text) = ([[0]; 3], make::in_field(form, field, number));
+fn read_in_field(form: Form, columns: Columns, field: Field, number: &str) -> Result<u32, Refused> {
+    let ([mut codes, mut accounts, mut numbers], text) = ([[0]; 3], make::in_field(form, columns, field, number));
     let terms = dilbreth::read(&text, &mut codes, &mut accounts, &mut numbers)?;
     assert_eq!(terms.form, library_form(form));
-    if !make::has_codes(&text) {
+    if !columns.codes {
         assert_eq!(codes, accounts);
     }
-    let (exercised, draw) = (terms.exercised, terms.draw);
-    let found = [exercised, draw, accounts[0], numbers[0], exercised, draw, codes[0], accounts[0], numbers[0]];
-    Ok(found[field])
+    if !columns.increment {
+        assert_eq!(terms.increment, DEFAULT_INCREMENT);
+    }
+    Ok(match field {
+        Field::Exercised => terms.exercised,
+        Field::Draw => terms.draw,
+        Field::Increment => terms.increment,
+        Field::Code => codes[0],
+        Field::Account => accounts[0],
+        Field::Number => numbers[0],
+    })
 }
 
 fn in_every_field(count: &mut Count, number: &str, expected: Result<u32, Refused>) {
     for form in FORMS {
-        for field in 0..make::FIELDS {
-            assert_eq!(read_in_field(form, field, number), expected, "{number} in field {field}, {form:?}");
-            let text = make::in_field(form, field, number);
+        for (columns, field) in make::fields() {
+            let found = read_in_field(form, columns, field, number);
+            assert_eq!(found, expected, "{number} in {field:?}, {columns:?}, {form:?}");
+            let text = make::in_field(form, columns, field, number);
             count.case(compare::read(&text, [1; 3]));
             count.case(compare::read(&text, [0, 1, 1]));
             count.case(compare::change(&text, 100));
@@ -422,21 +511,22 @@ fn ten_digits_past_32_bits() {
     count.print();
 }
 
-fn respond(text: &[u8]) -> String {
-    let mut output = vec![0; reference::MOST_PRINTED];
-    let length = dilbreth::respond(text, &mut output).expect("room enough");
-    output.truncate(length);
-    String::from_utf8(output).expect("ASCII")
-}
-
 #[test]
 fn zero_in_every_spelling() {
     for (form, none) in FORMS.into_iter().zip([6, 20]) {
-        for (field, refusal) in [8, 10, 5, none, 8, 10, 5, 19, none].into_iter().enumerate() {
+        for (columns, field) in make::fields() {
+            let refusal = match field {
+                Field::Exercised => 8,
+                Field::Draw => 10,
+                Field::Increment => 23,
+                Field::Account if columns.codes => 19,
+                Field::Code | Field::Account => 5,
+                Field::Number => none,
+            };
             for digits in 1..=12 {
-                let text = make::in_field(form, field, &"0".repeat(digits));
+                let text = make::in_field(form, columns, field, &"0".repeat(digits));
                 let number = if digits <= 10 { refusal } else { 13 };
-                assert_eq!(respond(&text), format!("refused\n{number}\n"), "{digits} digits in field {field}");
+                assert_eq!(respond(&text), format!("refused\n{number}\n"), "{digits} digits in {field:?}, {columns:?}");
             }
         }
     }
@@ -450,18 +540,21 @@ fn spelling_changes_no_answer() {
     let shorts = make::upward(accounts.len());
     let codes: Vec<u32> = shorts.iter().map(|n| n * n * n).collect();
     let lists = FORMS.map(|form| Series::by_account(accounts.clone(), shorts.clone()).in_form(form));
-    let kinds = make::METHODS.into_iter().flat_map(|method| [(method, false), (method, true)]);
-    for ((method, coded), list) in kinds.flat_map(|kind| lists.each_ref().map(|list| (kind, list))) {
-        let list = List { codes: if coded { &codes } else { &accounts }, ..list.list() };
-        let text = reference::write(method, 60, 7, list, usize::MAX).unwrap();
+    let kinds = make::METHODS.into_iter().flat_map(|method| COLUMNS.map(|columns| (method, columns)));
+    for ((method, columns), list) in kinds.flat_map(|kind| lists.each_ref().map(|list| (kind, list))) {
+        let list = List { codes: if columns.codes { &codes } else { &accounts }, ..list.list() };
+        let terms = Terms::new(method, 60, 7).by(if columns.increment { 10 } else { DEFAULT_INCREMENT });
+        let text = reference::write(terms, list, usize::MAX).unwrap();
+        assert_eq!(make::columns(&text), columns);
         let printed = respond(&text);
         assert!(printed.starts_with("account,assigned\n1,"));
         for turn in 0..10 {
             let width = |i: usize, digits: usize| digits + (i / 2 + turn) % (11 - digits);
-            let in_accounts =
-                |i, digits| if make::is_account(make::field(coded, i)) { width(i, digits) } else { digits };
-            let in_accounts = make::spelled(&text, in_accounts);
-            for other in [in_accounts, make::spelled(&text, width), make::spelled(&text, |_, _| turn + 1)] {
+            let only = |field| {
+                make::spelled(&text, |i, digits| if columns.field(i) == field { width(i, digits) } else { digits })
+            };
+            let everywhere = [make::spelled(&text, width), make::spelled(&text, |_, _| turn + 1)];
+            for other in [only(Field::Account), only(Field::Increment)].into_iter().chain(everywhere) {
                 assert_eq!(respond(&other), printed, "{}", String::from_utf8_lossy(&other));
                 count.case(compare::read(&other, [accounts.len(); 3]));
                 count.case(compare::change(&other, 2 * text.len()));
@@ -476,7 +569,7 @@ fn spelling_changes_no_answer() {
 fn respond_to_pair(count: &mut Count, terms: &str, coded: bool, first: &str, second: &str) -> String {
     let [printed, by_last] = FORMS.map(|form| {
         let last = if form == Form::Shorts { 4 } else { 7 };
-        let names = make::names(coded, form);
+        let names = make::names_3(coded, form);
         let text = format!("method,exercised,draw\n{terms}\n{names}{first},3\n{second},{last}\n");
         let printed = respond(text.as_bytes());
         count.case(compare::read(text.as_bytes(), [2; 3]));
@@ -578,9 +671,11 @@ fn lines_and_bytes_at_the_limit() {
     let ranged = b"method,exercised,draw\nR,26,7\naccount,short\n";
     let lasts = b"method,exercised,draw\nL,26,7\naccount,last\n";
     let coded_lasts = b"method,exercised,draw\nW,26,7\ncode,account,last\n";
+    let by_tens = b"method,exercised,draw,increment\nW,26,7,10\naccount,short\n";
     for lines in [0, 1, 1_023, 1_024, 1_025, 1_026, 2_000] {
         lines_at_the_limit(&mut count, head, lines, |account| format!("{account},3\n"));
         lines_at_the_limit(&mut count, ranged, lines, |account| format!("{account},3\n"));
+        lines_at_the_limit(&mut count, by_tens, lines, |account| format!("{account},3\n"));
         lines_at_the_limit(&mut count, coded, lines, |code| format!("{code},{},3\n", 10_000 - code));
         lines_at_the_limit(&mut count, coded, lines, |code| format!("{code},{code},3\n"));
         lines_at_the_limit(&mut count, lasts, lines, |account| format!("{account},{}\n", 3 * account));
@@ -592,6 +687,9 @@ fn lines_and_bytes_at_the_limit() {
                 &b""[..],
                 b"method,exercised,draw\n",
                 b"method,exercised,draw\nW,1,",
+                b"method,exercised,draw,increment\n",
+                b"method,exercised,draw,increment\nW,1,1,",
+                by_tens,
                 head,
                 coded,
                 lasts,
@@ -620,7 +718,7 @@ fn exactly_32_768_bytes() {
     for (form, length) in FORMS.into_iter().flat_map(|form| (32_766..=32_770).map(move |length| (form, length))) {
         let fits = length <= 32_768;
         let text = make::text_of_length(form, length);
-        assert_eq!((text.len(), make::has_codes(&text)), (length, true));
+        assert_eq!((text.len(), make::columns(&text)), (length, Columns { increment: true, codes: true }));
         assert_eq!(count.case(compare::read(&text, [1_024; 3])), fits);
         assert!(!count.case(compare::read(&text, [1_023, 1_024, 1_024])));
         assert_eq!(respond(&text).starts_with("account,assigned\n"), fits);
@@ -629,16 +727,25 @@ fn exactly_32_768_bytes() {
         let series = make::list_of_length(form, length);
         for method in make::METHODS {
             for room in [0, 100, 32_766, 32_767, 32_768, 32_769, 32_770, 40_000] {
-                let written = count.case(compare::write(method, 1, 1, series.list(), room));
+                let written = count.case(compare::write(Terms::new(method, 1, 1), series.list(), room));
                 assert_eq!(written, fits && room >= length);
+            }
+            // A column of one digit for the increment has 12 bytes.
+            for (increment, column) in [(1, 12), (10, 13), (u32::MAX, 21)] {
+                let shorter = make::list_of_length(form, length - column);
+                let terms = Terms::new(method, 1, 1).by(increment);
+                for room in [32_766, 32_767, 32_768, 32_769, 32_770] {
+                    let written = count.case(compare::write(terms, shorter.list(), room));
+                    assert_eq!(written, fits && room >= length, "{increment}");
+                }
             }
         }
         // S or draw with more digits, and the same without codes, which is far shorter.
         for (exercised, draw) in [(10, 1), (1, 10), (u32::MAX, u32::MAX)] {
-            count.case(compare::write(b'W', exercised, draw, series.list(), 40_000));
+            count.case(compare::write(Terms::new(b'W', exercised, draw), series.list(), 40_000));
         }
         let short = List { codes: &series.accounts, ..series.list() };
-        assert!(count.case(compare::write(b'W', 1, 1, short, 32_768)));
+        assert!(count.case(compare::write(Terms::new(b'W', 1, 1), short, 32_768)));
     }
     count.print();
 }
@@ -682,15 +789,18 @@ fn random_writing() {
             _ => {}
         }
         let series = three_lists(&mut random, lengths);
-        let (exercised, draw) = (random.bits() as u32, random.spread(u64::from(u32::MAX)) as u32);
-        let method = random.pick(b"WPLRWPLRWPLRwX");
-        let answer = reference::write(method, exercised, draw, series.list(), usize::MAX);
+        let [draw, any] = [(); 2].map(|_| random.spread(u64::from(u32::MAX)) as u32);
+        let (method, exercised) = (random.pick(b"WPLRWPLRWPLRwX"), random.bits() as u32);
+        let increment = make::increment(&mut random);
+        let increment = random.pick(&[DEFAULT_INCREMENT, increment, any]);
+        let terms = Terms { method, exercised, draw, increment };
+        let answer = reference::write(terms, series.list(), usize::MAX);
         met[answer.as_ref().err().map_or(0, |&number| number as usize)] += 1;
         let needed = answer.map_or(60, |text| text.len());
         for room in rooms(&mut random, needed) {
-            count.case(compare::write(method, exercised, draw, series.list(), room));
+            count.case(compare::write(terms, series.list(), room));
         }
-        count.case(compare::write(method, exercised, draw, series.list(), random.index(60)));
+        count.case(compare::write(terms, series.list(), random.index(60)));
     }
     count.print();
     println!("random series written: refused by 1 {}, by 11 {}, by 14 {}, by 15 {}", met[1], met[11], met[14], met[15]);

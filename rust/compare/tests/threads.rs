@@ -34,9 +34,9 @@ fn every_call(seed: u64) -> u64 {
     let mut random = Random::new(seed);
     let mut count = Count::new("on several threads");
     for number in 0..400 {
-        for make::Call { method, list, exercised, draw, room } in make::calls(&mut random, 60, 5_000) {
-            count.allocate(method, list.list(), exercised, draw, room);
-            count.case(compare::write(method, exercised, draw, list.list(), 2_000));
+        for make::Call { terms, list, room } in make::calls(&mut random, 60, 5_000) {
+            count.allocate(terms, list.list(), room);
+            count.case(compare::write(terms, list.list(), 2_000));
         }
         let text = make::text(&mut random, 60);
         count.case(compare::read(&text, [60; 3]));

@@ -3,15 +3,16 @@
 use compare::make::{self, Series};
 use compare::program::{Feed, Program};
 use compare::random::Random;
-use compare::{cases, Count, FORMS};
+use compare::{cases, Count, Terms, FORMS};
 use reference::Allocation;
 
-// S around 0 and T, and draws in and out of range.
-fn terms(list: &Series) -> Vec<(u32, u32)> {
+// S around 0 and T, draws in and out of range, and increments, of which W takes most.
+fn terms(random: &mut Random, method: u8, list: &Series) -> Vec<Terms> {
     let total = list.total() as u32;
     [0, 1, total - 1, total, total + 1]
         .into_iter()
-        .flat_map(|exercised| make::draws(total).map(|draw| (exercised, draw)))
+        .flat_map(|exercised| make::draws(total).map(|draw| Terms::new(method, exercised, draw)))
+        .map(|terms| terms.by(make::increment(random)))
         .collect()
 }
 
@@ -48,12 +49,13 @@ fn allocating() {
         lists.push(make::series(&mut random, positions, total, true));
     }
     for (method, list) in of_each_method(&mut random, &lists) {
-        for (exercised, draw) in terms(&list) {
-            count.allocate(method, list.list(), exercised, draw, list.numbers.len() + 1);
+        for terms in terms(&mut random, method, &list) {
+            count.allocate(terms, list.list(), list.numbers.len() + 1);
         }
     }
     count.print();
     assert!(!count.undrawn().contains(&0));
+    assert!(!count.met([8, 9, 10, 23, 24]).contains(&0));
 }
 
 // The texts of series of so many lists; `run` answers whether one was allocated.
@@ -62,10 +64,10 @@ fn texts(what: &'static str, seed: u64, lists: usize, run: impl Fn(&[u8]) -> Res
     let mut count = Count::new(what);
     let lists = random_lists(&mut random, lists);
     for (method, list) in of_each_method(&mut random, &lists) {
-        for (exercised, draw) in terms(&list) {
-            let text = reference::write(method, exercised, draw, list.list(), usize::MAX);
+        for terms in terms(&mut random, method, &list) {
+            let text = reference::write(terms, list.list(), usize::MAX);
             if count.case(run(&text.expect("a text"))) {
-                count.allocated(method, list.list(), exercised, draw);
+                count.allocated(terms, list.list());
             }
         }
     }
@@ -90,23 +92,24 @@ fn running_the_program() {
 
 // The answer as it was before: the draw is judged before anything is decided. Under R, where there was none, the answer
 // by its draw in any case.
-fn before(method: u8, list: &Series, exercised: u32, draw: u32, room: usize) -> Result<Allocation, u32> {
-    let total = reference::judge(method, list.list(), exercised, room)?;
-    reference::judge_draw(method, total, draw)?;
+fn before(terms: Terms, list: &Series, room: usize) -> Result<Allocation, u32> {
+    let total = reference::judge(terms, list.list(), room)?;
+    reference::judge_draw(terms, total)?;
     let shorts = list.list().shorts();
-    let (amounts, further) = if method == b'W' && exercised == total {
+    let (amounts, further) = if terms.method == b'W' && terms.exercised == total {
         (shorts, 0)
     } else {
-        reference::by_draw(method, &shorts, total, exercised, draw)
+        reference::by_draw(terms, &shorts, total)
     };
     Ok(Allocation { amounts, total, further })
 }
 
 // Holds an answer against the one before: 0 for an allocation and 1 for a refusal that are the same, 2 for a starting
 // place that is 0 now, 3 for a draw that is no longer refused.
-fn hold(method: u8, list: &Series, exercised: u32, draw: u32, room: usize) -> usize {
-    let before = before(method, list, exercised, draw, room);
-    let after = reference::allocate(method, list.list(), exercised, draw, room);
+fn hold(terms: Terms, list: &Series, room: usize) -> usize {
+    let Terms { method, exercised, .. } = terms;
+    let before = before(terms, list, room);
+    let after = reference::allocate(terms, list.list(), room);
     let whole = u64::from(exercised) == list.total();
     let placed = b"LR".contains(&method);
     let one = placed && list.numbers.len() == 1;
@@ -116,7 +119,7 @@ fn hold(method: u8, list: &Series, exercised: u32, draw: u32, room: usize) -> us
         Err(10) if one => Ok(Allocation { amounts: vec![exercised], total: list.numbers[0], further: 0 }),
         other => other,
     };
-    assert_eq!(after, expected, "{}", cases::allocate(method, list.list(), exercised, draw, room));
+    assert_eq!(after, expected, "{}", cases::allocate(terms, list.list(), room));
     usize::from(before.is_err()) + 2 * usize::from(before != after)
 }
 
@@ -130,7 +133,8 @@ fn before_and_after() {
             for method in *b"WPLRX" {
                 for exercised in 0..=total + 1 {
                     for &draw in &draws {
-                        change[hold(method, &list, exercised, draw, list.numbers.len())] += 1;
+                        let terms = Terms::new(method, exercised, draw).by(1 + draw % 4);
+                        change[hold(terms, &list, list.numbers.len())] += 1;
                     }
                 }
             }
@@ -138,8 +142,8 @@ fn before_and_after() {
     }
     let mut random = Random::new(0xD4A3_0004);
     for _ in 0..20_000 {
-        for make::Call { method, list, exercised, draw, room } in make::calls(&mut random, 12, 400) {
-            change[hold(method, &list, exercised, draw, room)] += 1;
+        for make::Call { terms, list, room } in make::calls(&mut random, 12, 400) {
+            change[hold(terms, &list, room)] += 1;
         }
     }
     let [allocated, refused, placed, drawn] = change;

@@ -1,4 +1,4 @@
-// The words for the refusals: docs/GUIDE.md and the header show those of the library.
+// The words for the refusals: docs/GUIDE.md and the header show those of the library. 21 and 22 are no refusals.
 
 use compare::make::METHODS;
 use compare::Count;
@@ -37,7 +37,8 @@ fn header_constant(name: &str) -> u32 {
 
 #[test]
 fn tables_show_the_words() {
-    let words: Vec<(u32, String)> = (1..=20).map(|number| (number, dilbreth::explain(number))).collect();
+    let numbers = (1..=20).chain([23, 24]);
+    let words: Vec<(u32, String)> = numbers.map(|number| (number, dilbreth::explain(number))).collect();
     assert_eq!(guide_table(), words);
     assert_eq!(header_table(), words);
 }
@@ -83,8 +84,8 @@ fn one_letter_for_each_method() {
 // What the header says is always enough for what `assign` prints, and for a changed text.
 #[test]
 fn room_for_all_that_is_written() {
-    assert_eq!((reference::MOST_PRINTED, reference::MOST_CHANGED), (70_705, 31_809));
-    for length in ["70,705", "31,809"] {
+    assert_eq!((reference::MOST_PRINTED, reference::MOST_CHANGED), (70_705, 31_830));
+    for length in ["70,705", "31,830"] {
         assert!(HEADER.contains(&format!("the length of output ({length} is always enough)")));
     }
 }
@@ -93,6 +94,7 @@ fn room_for_all_that_is_written() {
 #[test]
 fn one_version() {
     assert_eq!(header_constant("DILBRETH_VERSION"), dilbreth::VERSION);
+    assert_eq!(header_constant("DILBRETH_DEFAULT_INCREMENT"), dilbreth::DEFAULT_INCREMENT);
     assert_eq!(header_constant("DILBRETH_ORDINARY_DAY"), Day::Ordinary.number());
     assert_eq!(header_constant("DILBRETH_FINAL_DAY"), Day::Final.number());
     for (name, form) in [("DILBRETH_SHORTS", Form::Shorts), ("DILBRETH_LAST_NUMBERS", Form::LastNumbers)] {
@@ -106,6 +108,7 @@ fn one_version() {
         "DILBRETH_VERSION",
         "DILBRETH_SHORTS",
         "DILBRETH_LAST_NUMBERS",
+        "DILBRETH_DEFAULT_INCREMENT",
         "DILBRETH_ORDINARY_DAY",
         "DILBRETH_FINAL_DAY",
         "DILBRETH_LONGEST_EXPLANATION",

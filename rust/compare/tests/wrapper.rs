@@ -1,49 +1,62 @@
 // The safe wrapper, by the series with known amounts, the exhibit and the circular's days.
 
-use dilbreth::{AfterDay, Allocated, Day, Form, Investor, MarketMaker, Method, Refused, Terms};
+use dilbreth::{AfterDay, Allocated, Day, Form, Investor, MarketMaker, Method, Refused, Terms, DEFAULT_INCREMENT};
 
 const FORMS: [Form; 2] = [Form::Shorts, Form::LastNumbers];
 
-type Known = (Method, &'static [u32], u32, u32, &'static [u32], u32);
+// Method, shorts, S, draw, increment, amounts and the further number.
+type Known = (Method, &'static [u32], u32, u32, u32, &'static [u32], u32);
 
 // The shorts of the exhibit.
 const EXHIBIT: [u32; 10] = [1, 50, 100, 2, 1, 1, 1000, 1, 10, 20];
 
-const KNOWN: [Known; 21] = [
-    (Method::Wheel, &[60, 200, 95], 175, 1, &[35, 97, 43], 7),
-    (Method::Wheel, &[60, 200, 95], 175, 340, &[34, 98, 43], 7),
-    (Method::Wheel, &[10, 20], 26, 29, &[10, 16], 2),
-    (Method::Wheel, &[50, 50], 30, 1, &[25, 5], 2),
-    (Method::Wheel, &[76, 1, 77], 150, 1, &[75, 0, 75], 6),
-    (Method::ProRata, &[5, 3, 2], 4, 0, &[2, 1, 1], 1),
-    (Method::ProRata, &[3], 1, 0, &[1], 1),
-    (Method::ProRata, &[1, 1, 1], 1, 5, &[0, 0, 1], 1),
-    (Method::ProRata, &[1, 1, 1], 2, 2, &[1, 0, 1], 2),
-    (Method::ProRata, &[3, 1, 2], 2, 0, &[1, 0, 1], 2),
-    (Method::Lottery, &[5, 8, 2, 10, 11], 13, 4855, &[0, 0, 0, 8, 5], 18),
-    (Method::Lottery, &[5, 8, 2, 10, 11], 2, 10000, &[1, 0, 0, 0, 1], 36),
+const KNOWN: [Known; 25] = [
+    (Method::Wheel, &[60, 200, 95], 175, 1, 25, &[35, 97, 43], 7),
+    (Method::Wheel, &[60, 200, 95], 175, 340, 25, &[34, 98, 43], 7),
+    (Method::Wheel, &[10, 20], 26, 29, 25, &[10, 16], 2),
+    (Method::Wheel, &[50, 50], 30, 1, 25, &[25, 5], 2),
+    (Method::Wheel, &[76, 1, 77], 150, 1, 25, &[75, 0, 75], 6),
+    (Method::ProRata, &[5, 3, 2], 4, 0, 25, &[2, 1, 1], 1),
+    (Method::ProRata, &[3], 1, 0, 25, &[1], 1),
+    (Method::ProRata, &[1, 1, 1], 1, 5, 25, &[0, 0, 1], 1),
+    (Method::ProRata, &[1, 1, 1], 2, 2, 25, &[1, 0, 1], 2),
+    (Method::ProRata, &[3, 1, 2], 2, 0, 25, &[1, 0, 1], 2),
+    (Method::Lottery, &[5, 8, 2, 10, 11], 13, 4855, 25, &[0, 0, 0, 8, 5], 18),
+    (Method::Lottery, &[5, 8, 2, 10, 11], 2, 10000, 25, &[1, 0, 0, 0, 1], 36),
     // The draw is not judged.
-    (Method::Wheel, &[5, 8, 2, 10, 11], 36, 0, &[5, 8, 2, 10, 11], 0),
-    (Method::Lottery, &[5, 8, 2, 10, 11], 36, 0, &[5, 8, 2, 10, 11], 0),
-    (Method::Lottery, &[5, 8, 2, 10, 11], 36, 4855, &[5, 8, 2, 10, 11], 0),
-    (Method::Lottery, &[36], 13, 0, &[13], 0),
-    (Method::RemainderDraw, &EXHIBIT, 50, 395, &[0, 0, 0, 0, 0, 0, 50, 0, 0, 0], 396),
-    (Method::RemainderDraw, &EXHIBIT, 30, u32::MAX, &[0, 0, 0, 0, 0, 0, 28, 1, 1, 0], 1128),
-    (Method::RemainderDraw, &EXHIBIT, 30, 1185, &[1, 28, 0, 0, 0, 0, 0, 0, 0, 1], 1186),
-    (Method::RemainderDraw, &EXHIBIT, 1186, 395, &EXHIBIT, 0),
-    (Method::RemainderDraw, &[36], 13, 4855, &[13], 0),
+    (Method::Wheel, &[5, 8, 2, 10, 11], 36, 0, 25, &[5, 8, 2, 10, 11], 0),
+    (Method::Lottery, &[5, 8, 2, 10, 11], 36, 0, 25, &[5, 8, 2, 10, 11], 0),
+    (Method::Lottery, &[5, 8, 2, 10, 11], 36, 4855, 25, &[5, 8, 2, 10, 11], 0),
+    (Method::Lottery, &[36], 13, 0, 25, &[13], 0),
+    (Method::RemainderDraw, &EXHIBIT, 50, 395, 25, &[0, 0, 0, 0, 0, 0, 50, 0, 0, 0], 396),
+    (Method::RemainderDraw, &EXHIBIT, 30, u32::MAX, 25, &[0, 0, 0, 0, 0, 0, 28, 1, 1, 0], 1128),
+    (Method::RemainderDraw, &EXHIBIT, 30, 1185, 25, &[1, 28, 0, 0, 0, 0, 0, 0, 0, 1], 1186),
+    (Method::RemainderDraw, &EXHIBIT, 1186, 395, 25, &EXHIBIT, 0),
+    (Method::RemainderDraw, &[36], 13, 4855, 25, &[13], 0),
+    // By tens, as one block, whole, and increments that are not looked at.
+    (Method::Wheel, &[60, 200, 95], 65, 340, 10, &[10, 40, 15], 7),
+    (Method::Wheel, &[60, 200, 95], 175, 300, 1_000, &[60, 59, 56], 1),
+    (Method::Wheel, &[5, 8, 2, 10, 11], 36, 0, 1, &[5, 8, 2, 10, 11], 0),
+    (Method::Lottery, &[5, 8, 2, 10, 11], 13, 4855, 0, &[0, 0, 0, 8, 5], 18),
 ];
+
+// Writes lists with the terms that a text gave.
+fn write(terms: Terms, codes: &[u32], accounts: &[u32], numbers: &[u32], text: &mut [u8]) -> Result<usize, Refused> {
+    let Terms { method, exercised, draw, increment, form, .. } = terms;
+    dilbreth::write(method, exercised, draw, increment, form, codes, accounts, numbers, text)
+}
 
 #[test]
 fn series_with_known_amounts() {
-    for (method, shorts, exercised, draw, expected, further) in KNOWN {
+    for (method, shorts, exercised, draw, increment, expected, further) in KNOWN {
         let accounts: Vec<u32> = (1..=shorts.len() as u32).collect();
         let mut amounts = vec![9; shorts.len() + 1];
         let lasts: Vec<u32> = (1..=shorts.len()).map(|count| shorts[..count].iter().sum()).collect();
         let total = lasts[lasts.len() - 1];
         for (form, numbers) in [(Form::Shorts, shorts), (Form::LastNumbers, &lasts)] {
             amounts.fill(9);
-            let answer = dilbreth::allocate(method, form, &accounts, &accounts, numbers, exercised, draw, &mut amounts);
+            let (list, out) = (&accounts, &mut amounts);
+            let answer = dilbreth::allocate(method, exercised, draw, increment, form, list, list, numbers, out);
             assert_eq!(answer, Ok(Allocated { total, further }));
             assert_eq!(amounts[..shorts.len()], *expected);
             assert_eq!(amounts[shorts.len()], 9);
@@ -54,7 +67,8 @@ fn series_with_known_amounts() {
             _ => (vec![], accounts),
         };
         amounts.fill(9);
-        let answer = dilbreth::allocate(method, Form::Shorts, &codes, &accounts, shorts, exercised, draw, &mut amounts);
+        let (form, out) = (Form::Shorts, &mut amounts);
+        let answer = dilbreth::allocate(method, exercised, draw, increment, form, &codes, &accounts, shorts, out);
         assert_eq!(answer, Ok(Allocated { total, further }));
         assert_eq!(amounts[..shorts.len()], *expected);
     }
@@ -65,12 +79,13 @@ fn case_m_in_full() {
     let text = b"method,exercised,draw\nL,13,4855\naccount,short\n1,5\n2,8\n3,2\n4,10\n5,11\n";
     let (mut codes, mut accounts, mut shorts) = ([0; 6], [0; 6], [0; 6]);
     let terms = dilbreth::read(text, &mut codes, &mut accounts, &mut shorts).unwrap();
-    assert_eq!(terms, Terms { method: Method::Lottery, exercised: 13, draw: 4855, form: Form::Shorts, positions: 5 });
+    assert_eq!(
+        terms,
+        Terms { method: Method::Lottery, exercised: 13, draw: 4855, increment: 25, form: Form::Shorts, positions: 5 }
+    );
     assert_eq!((codes, accounts, shorts), ([1, 2, 3, 4, 5, 0], [1, 2, 3, 4, 5, 0], [5, 8, 2, 10, 11, 0]));
     let mut bytes = [0; 100];
-    let length =
-        dilbreth::write(terms.method, 13, 4855, terms.form, &codes[..5], &accounts[..5], &shorts[..5], &mut bytes)
-            .unwrap();
+    let length = write(terms, &codes[..5], &accounts[..5], &shorts[..5], &mut bytes).unwrap();
     assert_eq!(bytes[..length], text[..]);
     let length = dilbreth::respond(text, &mut bytes).unwrap();
     assert_eq!(&bytes[..length], b"account,assigned\n1,0\n2,0\n3,0\n4,8\n5,5\n");
@@ -83,11 +98,18 @@ fn the_exhibit_in_full() {
     let terms = dilbreth::read(text, &mut codes, &mut accounts, &mut shorts).unwrap();
     assert_eq!(
         terms,
-        Terms { method: Method::RemainderDraw, exercised: 50, draw: 395, form: Form::Shorts, positions: 10 }
+        Terms {
+            method: Method::RemainderDraw,
+            exercised: 50,
+            draw: 395,
+            increment: 25,
+            form: Form::Shorts,
+            positions: 10
+        }
     );
     assert_eq!((codes, accounts, shorts), (accounts, [1, 2, 3, 4, 5, 6, 7, 8, 9, 10], EXHIBIT));
     let mut bytes = [0; 500];
-    let length = dilbreth::write(terms.method, 50, 395, terms.form, &codes, &accounts, &shorts, &mut bytes).unwrap();
+    let length = write(terms, &codes, &accounts, &shorts, &mut bytes).unwrap();
     assert_eq!(bytes[..length], text[..]);
     let printed = include_bytes!("../../../examples/remainder-draw.out");
     let length = dilbreth::respond(text, &mut bytes).unwrap();
@@ -101,13 +123,16 @@ fn codes() {
     let text = b"method,exercised,draw\nW,175,340\ncode,account,short\n3,21,60\n7,4,200\n9,11,95\n";
     let (mut codes, mut accounts, mut shorts) = ([0; 3], [0; 3], [0; 3]);
     let terms = dilbreth::read(text, &mut codes, &mut accounts, &mut shorts).unwrap();
-    assert_eq!(terms, Terms { method: Method::Wheel, exercised: 175, draw: 340, form: Form::Shorts, positions: 3 });
+    assert_eq!(
+        terms,
+        Terms { method: Method::Wheel, exercised: 175, draw: 340, increment: 25, form: Form::Shorts, positions: 3 }
+    );
     assert_eq!((codes, accounts, shorts), ([3, 7, 9], [21, 4, 11], [60, 200, 95]));
     assert_eq!(dilbreth::read(text, &mut [0; 2], &mut accounts, &mut shorts), Err(Refused(4)));
     let mut bytes = [0; 100];
-    let length = dilbreth::write(terms.method, 175, 340, terms.form, &codes, &accounts, &shorts, &mut bytes).unwrap();
+    let length = write(terms, &codes, &accounts, &shorts, &mut bytes).unwrap();
     assert_eq!(bytes[..length], text[..]);
-    let length = dilbreth::write(terms.method, 175, 340, terms.form, &codes, &codes, &shorts, &mut bytes).unwrap();
+    let length = write(terms, &codes, &codes, &shorts, &mut bytes).unwrap();
     assert_eq!(&bytes[..length], b"method,exercised,draw\nW,175,340\naccount,short\n3,60\n7,200\n9,95\n");
     let length = dilbreth::respond(text, &mut bytes).unwrap();
     assert_eq!(&bytes[..length], b"account,assigned\n21,34\n4,98\n11,43\n");
@@ -120,10 +145,13 @@ fn leading_zeros() {
     assert_eq!(dilbreth::read(text, &mut codes, &mut accounts, &mut shorts), Err(Refused(13)));
     let text = b"method,exercised,draw\nL,0000000013,04855\naccount,short\n0001,0036\n4294967295,0000000000\n";
     let terms = dilbreth::read(text, &mut codes, &mut accounts, &mut shorts).unwrap();
-    assert_eq!(terms, Terms { method: Method::Lottery, exercised: 13, draw: 4855, form: Form::Shorts, positions: 2 });
+    assert_eq!(
+        terms,
+        Terms { method: Method::Lottery, exercised: 13, draw: 4855, increment: 25, form: Form::Shorts, positions: 2 }
+    );
     assert_eq!((codes, accounts, shorts), ([1, u32::MAX], [1, u32::MAX], [36, 0]));
     let mut bytes = [0; 100];
-    let length = dilbreth::write(terms.method, 13, 4855, terms.form, &codes, &accounts, &shorts, &mut bytes).unwrap();
+    let length = write(terms, &codes, &accounts, &shorts, &mut bytes).unwrap();
     assert_eq!(&bytes[..length], b"method,exercised,draw\nL,13,4855\naccount,short\n1,36\n4294967295,0\n");
     let text = b"method,exercised,draw\nL,0000000013,04855\naccount,short\n0001,0036\n";
     let length = dilbreth::respond(text, &mut bytes).unwrap();
@@ -188,11 +216,18 @@ fn last_numbers() {
     let shorts = b"method,exercised,draw\nW,175,340\ncode,account,short\n3,21,60\n7,4,200\n9,11,95\n";
     let (mut codes, mut accounts, mut numbers) = ([0; 3], [0; 3], [0; 3]);
     let terms = dilbreth::read(lasts, &mut codes, &mut accounts, &mut numbers).unwrap();
-    let expected = Terms { method: Method::Wheel, exercised: 175, draw: 340, form: Form::LastNumbers, positions: 3 };
+    let expected = Terms {
+        method: Method::Wheel,
+        exercised: 175,
+        draw: 340,
+        increment: 25,
+        form: Form::LastNumbers,
+        positions: 3,
+    };
     assert_eq!(terms, expected);
     assert_eq!((codes, accounts, numbers), ([3, 7, 9], [21, 4, 11], [60, 260, 355]));
     let mut bytes = [0; 100];
-    let length = dilbreth::write(terms.method, 175, 340, terms.form, &codes, &accounts, &numbers, &mut bytes).unwrap();
+    let length = write(terms, &codes, &accounts, &numbers, &mut bytes).unwrap();
     assert_eq!(bytes[..length], lasts[..]);
     for (from, to) in [(&lasts[..], &shorts[..]), (shorts, lasts)] {
         let length = dilbreth::change(from, &mut bytes).unwrap();
@@ -203,14 +238,51 @@ fn last_numbers() {
     }
 }
 
+// A text with an increment through each call; no two numbers of line 2 are equal.
+#[test]
+fn increments() {
+    assert_eq!(DEFAULT_INCREMENT, 25);
+    let text = b"method,exercised,draw,increment\nW,65,340,10\naccount,short\n1,60\n2,200\n3,95\n";
+    let changed = b"method,exercised,draw,increment\nW,65,340,10\naccount,last\n1,60\n2,260\n3,355\n";
+    let (mut codes, mut accounts, mut shorts) = ([0; 3], [0; 3], [0; 3]);
+    let terms = dilbreth::read(text, &mut codes, &mut accounts, &mut shorts).unwrap();
+    let expected =
+        Terms { method: Method::Wheel, exercised: 65, draw: 340, increment: 10, form: Form::Shorts, positions: 3 };
+    assert_eq!((terms, shorts), (expected, [60, 200, 95]));
+    let mut bytes = [0; 100];
+    let length = write(terms, &codes, &accounts, &shorts, &mut bytes).unwrap();
+    assert_eq!(bytes[..length], text[..]);
+    let length = write(Terms { increment: 25, ..terms }, &codes, &accounts, &shorts, &mut bytes).unwrap();
+    assert_eq!(&bytes[..length], b"method,exercised,draw\nW,65,340\naccount,short\n1,60\n2,200\n3,95\n");
+    for (from, to) in [(&text[..], &changed[..]), (changed, text)] {
+        let length = dilbreth::change(from, &mut bytes).unwrap();
+        assert_eq!(bytes[..length], to[..]);
+        let length = dilbreth::respond(from, &mut bytes).unwrap();
+        assert_eq!(&bytes[..length], b"account,assigned\n1,10\n2,40\n3,15\n");
+    }
+    // An increment that is refused is read, written and changed.
+    let text = b"method,exercised,draw,increment\nW,65,340,0\naccount,short\n1,60\n2,200\n3,95\n";
+    let terms = dilbreth::read(text, &mut codes, &mut accounts, &mut shorts).unwrap();
+    assert_eq!(terms, Terms { increment: 0, ..expected });
+    let length = write(terms, &codes, &accounts, &shorts, &mut bytes).unwrap();
+    assert_eq!(bytes[..length], text[..]);
+    assert!(dilbreth::change(text, &mut bytes).is_ok());
+    let length = dilbreth::respond(text, &mut bytes).unwrap();
+    assert_eq!(&bytes[..length], b"refused\n23\n");
+}
+
 #[test]
 fn refusals_are_errors() {
-    let refused = |method, codes: &[u32], accounts: &[u32], exercised, draw| {
+    let refused_by = |increment, method, codes: &[u32], accounts: &[u32], exercised, draw| {
         let found = FORMS.map(|form| {
-            dilbreth::allocate(method, form, codes, accounts, &[36], exercised, draw, &mut [0]).unwrap_err().0
+            let out = &mut [0];
+            dilbreth::allocate(method, exercised, draw, increment, form, codes, accounts, &[36], out).unwrap_err().0
         });
         assert_eq!(found[0], found[1]);
         found[0]
+    };
+    let refused = |method, codes: &[u32], accounts: &[u32], exercised, draw| {
+        refused_by(DEFAULT_INCREMENT, method, codes, accounts, exercised, draw)
     };
     assert_eq!(refused(Method::Wheel, &[1], &[1], 37, 1), 9);
     assert_eq!(refused(Method::Wheel, &[1], &[1], 13, 0), 10);
@@ -220,11 +292,23 @@ fn refusals_are_errors() {
     assert_eq!(refused(Method::ProRata, &[1], &[0], 13, 1), 5);
     assert_eq!(refused(Method::RemainderDraw, &[], &[0], 13, 1), 5);
     assert_eq!(refused(Method::RemainderDraw, &[], &[1], 37, 1), 9);
+    // 0 is no increment; S, then the increment, then the draw.
+    assert_eq!(refused_by(0, Method::Wheel, &[1], &[1], 36, 0), 23);
+    assert_eq!(refused_by(1_001, Method::Wheel, &[1], &[1], 13, 0), 23);
+    assert_eq!(refused_by(1_000, Method::Wheel, &[1], &[1], 13, 0), 10);
+    assert_eq!(refused_by(0, Method::Wheel, &[1], &[1], 37, 0), 9);
+    assert_eq!(refused_by(0, Method::RemainderDraw, &[], &[1], 37, 0), 9);
+    let many = [[2_000_001], [2_000_002]];
+    let found =
+        many.map(|list| dilbreth::allocate(Method::Wheel, 2_000_001, 0, 2, FORMS[0], &[1], &[1], &list, &mut [0]));
+    assert_eq!(found, [Ok(Allocated { total: 2_000_001, further: 0 }), Err(Refused(24))]);
     for (form, number) in FORMS.into_iter().zip([6, 20]) {
-        let found = dilbreth::allocate(Method::ProRata, form, &[], &[1], &[0], 1, 1, &mut [0]);
+        let found = dilbreth::allocate(Method::ProRata, 1, 1, DEFAULT_INCREMENT, form, &[], &[1], &[0], &mut [0]);
         assert_eq!(found, Err(Refused(number)));
-        assert_eq!(dilbreth::write(Method::Wheel, 1, 1, form, &[1], &[1], &[], &mut []), Err(Refused(1)));
-        assert_eq!(dilbreth::write(Method::Wheel, 1, 1, form, &[], &[1], &[1], &mut []), Err(Refused(1)));
+        for (codes, numbers) in [(&[1][..], &[][..]), (&[], &[1])] {
+            let found = dilbreth::write(Method::Wheel, 1, 1, DEFAULT_INCREMENT, form, codes, &[1], numbers, &mut []);
+            assert_eq!(found, Err(Refused(1)));
+        }
     }
     assert_eq!(dilbreth::read(b"", &mut [], &mut [], &mut []), Err(Refused(12)));
     assert_eq!(dilbreth::change(b"", &mut []), Err(Refused(12)));

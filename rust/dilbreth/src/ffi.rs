@@ -5,6 +5,9 @@ extern "C" {
 
     pub fn dilbreth_allocate(
         method: u8,
+        exercised: u32,
+        draw: u32,
+        increment: u32,
         form: u32,
         codes: *const u32,
         codes_len: usize,
@@ -12,8 +15,6 @@ extern "C" {
         accounts_len: usize,
         numbers: *const u32,
         numbers_len: usize,
-        exercised: u32,
-        draw: u32,
         amounts: *mut u32,
         amounts_len: usize,
         total: *mut u32,
@@ -23,16 +24,17 @@ extern "C" {
     pub fn dilbreth_read(
         text: *const u8,
         text_len: usize,
+        method: *mut u8,
+        exercised: *mut u32,
+        draw: *mut u32,
+        increment: *mut u32,
+        form: *mut u32,
         codes: *mut u32,
         codes_len: usize,
         accounts: *mut u32,
         accounts_len: usize,
         numbers: *mut u32,
         numbers_len: usize,
-        method: *mut u8,
-        exercised: *mut u32,
-        draw: *mut u32,
-        form: *mut u32,
         positions: *mut usize,
     ) -> u32;
 
@@ -40,6 +42,7 @@ extern "C" {
         method: u8,
         exercised: u32,
         draw: u32,
+        increment: u32,
         form: u32,
         codes: *const u32,
         codes_len: usize,

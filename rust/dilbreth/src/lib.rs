@@ -45,6 +45,9 @@ impl Method {
     }
 }
 
+/// The increment where none is given.
+pub const DEFAULT_INCREMENT: u32 = 25;
+
 /// What the number of a position is.
 #[derive(Clone, Copy, Debug, PartialEq, Eq)]
 pub enum Form {
@@ -123,6 +126,8 @@ pub struct Terms {
     pub method: Method,
     pub exercised: u32,
     pub draw: u32,
+    /// `DEFAULT_INCREMENT` where the text has no column of it.
+    pub increment: u32,
     pub form: Form,
     pub positions: usize,
 }
@@ -162,28 +167,31 @@ pub struct AfterDay {
 /// Assigns the exercised contracts; `amounts` receives those of each position in list order. Under the wheel the codes
 /// rise and the accounts differ, in any order; the other methods have the accounts rise and look at no code, so `&[]`
 /// will do. The draw is not looked at where S equals T, nor for one position of the lottery or the remainder draw;
-/// otherwise the wheel and the lottery judge it, and pro rata and the remainder draw take any. A list gets the same
-/// answer in both forms, but for 6 and 20.
+/// otherwise the wheel and the lottery judge it, and pro rata and the remainder draw take any. The increment is the
+/// wheel's, 1 to 1,000 contracts in a block; the other methods take any. A list gets the same answer in both forms, but
+/// for 6 and 20.
 #[allow(clippy::too_many_arguments)]
 pub fn allocate(
     method: Method,
+    exercised: u32,
+    draw: u32,
+    increment: u32,
     form: Form,
     codes: &[u32],
     accounts: &[u32],
     numbers: &[u32],
-    exercised: u32,
-    draw: u32,
     amounts: &mut [u32],
 ) -> Result<Allocated, Refused> {
     let (mut total, mut further) = (0, 0);
     accepted(calls::allocate(
         method.byte(),
+        exercised,
+        draw,
+        increment,
         form.number(),
         codes,
         accounts,
         numbers,
-        exercised,
-        draw,
         amounts,
         &mut total,
         &mut further,
@@ -193,28 +201,31 @@ pub fn allocate(
 
 /// Reads the text of a series into the three lists. Where the text has no column of codes, each is the account number.
 pub fn read(text: &[u8], codes: &mut [u32], accounts: &mut [u32], numbers: &mut [u32]) -> Result<Terms, Refused> {
-    let (mut method, mut exercised, mut draw, mut form, mut positions) = (0, 0, 0, 0, 0);
+    let (mut method, mut exercised, mut draw, mut increment, mut form, mut positions) = (0, 0, 0, 0, 0, 0);
     accepted(calls::read(
         text,
-        codes,
-        accounts,
-        numbers,
         &mut method,
         &mut exercised,
         &mut draw,
+        &mut increment,
         &mut form,
+        codes,
+        accounts,
+        numbers,
         &mut positions,
     ))?;
     let method = Method::from_byte(method).ok_or(Refused(14))?;
-    Ok(Terms { method, exercised, draw, form: Form::from_number(form), positions })
+    Ok(Terms { method, exercised, draw, increment, form: Form::from_number(form), positions })
 }
 
-/// Writes the text of a series; answers its length. The column of codes is left out where each is the account number.
+/// Writes the text of a series; answers its length. The column of codes is left out where each is the account number,
+/// that of the increment where it is `DEFAULT_INCREMENT`.
 #[allow(clippy::too_many_arguments)]
 pub fn write(
     method: Method,
     exercised: u32,
     draw: u32,
+    increment: u32,
     form: Form,
     codes: &[u32],
     accounts: &[u32],
@@ -223,12 +234,12 @@ pub fn write(
 ) -> Result<usize, Refused> {
     let (method, form) = (method.byte(), form.number());
     let mut written = 0;
-    accepted(calls::write(method, exercised, draw, form, codes, accounts, numbers, text, &mut written))?;
+    accepted(calls::write(method, exercised, draw, increment, form, codes, accounts, numbers, text, &mut written))?;
     Ok(written)
 }
 
-/// Changes the text of a series into its text in the other form; answers its length. The list is judged, S and draw are
-/// not. 31,809 bytes are always enough.
+/// Changes the text of a series into its text in the other form; answers its length. The list is judged; S, draw and
+/// increment are not. 31,830 bytes are always enough.
 pub fn change(text: &[u8], output: &mut [u8]) -> Result<usize, Refused> {
     let mut written = 0;
     accepted(calls::change(text, output, &mut written))?;

@@ -14,7 +14,7 @@ macro_rules! numbered {
     };
 }
 
-numbered!(7);
+numbered!(8);
 
 #[used]
 static LINKED: unsafe extern "C" fn() -> u32 = dilbreth_version_numbered;

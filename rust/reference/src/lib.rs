@@ -11,15 +11,42 @@ pub const MOST_LINES: usize = 1_024;
 pub const MOST_CONTRACTS: u64 = 10_000_000;
 pub const MOST_BYTES: usize = 32_768;
 pub const MOST_DIGITS: usize = 10;
-pub const INCREMENT: u64 = 25;
+/// The increment where none is given.
+pub const DEFAULT_INCREMENT: u32 = 25;
+pub const MOST_INCREMENT: u32 = 1_000;
+pub const MOST_BLOCKS: u32 = 1_000_000;
 /// What is printed has at most so many bytes: two names lines, and for each position a line with its account and
 /// amount, ten digits each, and one with its account and the four ends of its ranges, eight digits each.
 pub const MOST_PRINTED: usize = 17 + 32 + MOST_LINES * (22 + 47);
-/// A changed text has at most so many bytes: line 1, line 2 with two numbers of ten digits, line 3, and for each
+/// A changed text has at most so many bytes: line 1, line 2 with three numbers of ten digits, line 3, and for each
 /// position a line with its code and account, ten digits each, and its number, eight digits.
-pub const MOST_CHANGED: usize = 22 + 24 + 19 + MOST_LINES * 31;
+pub const MOST_CHANGED: usize = 32 + 35 + 19 + MOST_LINES * 31;
 
-const NAMES_1: &[u8] = b"method,exercised,draw\n";
+/// What line 2 of a text has.
+#[derive(Clone, Copy, Debug, PartialEq, Eq)]
+pub struct Terms {
+    pub method: u8,
+    pub exercised: u32,
+    pub draw: u32,
+    pub increment: u32,
+}
+
+impl Terms {
+    /// Terms that give no increment.
+    pub fn new(method: u8, exercised: u32, draw: u32) -> Terms {
+        Terms { method, exercised, draw, increment: DEFAULT_INCREMENT }
+    }
+
+    /// The same terms with the increment.
+    pub fn by(self, increment: u32) -> Terms {
+        Terms { increment, ..self }
+    }
+
+    /// T1: S divided by the increment, rounded up.
+    pub fn blocks(self) -> u32 {
+        self.exercised.div_ceil(self.increment)
+    }
+}
 
 /// What the number of a position is: its shorts, or its last sequence number.
 #[derive(Clone, Copy, Debug, PartialEq, Eq)]
@@ -73,9 +100,7 @@ pub struct Allocation {
 
 #[derive(Clone, Debug, PartialEq, Eq)]
 pub struct Series {
-    pub method: u8,
-    pub exercised: u32,
-    pub draw: u32,
+    pub terms: Terms,
     pub form: Form,
     pub codes: Vec<u32>,
     pub accounts: Vec<u32>,
@@ -142,20 +167,34 @@ pub fn judge_list(method: u8, list: List, room: usize) -> Result<u32, u32> {
     Ok(contracts as u32)
 }
 
+/// The refusals of the increment, under W.
+fn judge_increment(terms: Terms, total: u32) -> Result<(), u32> {
+    if terms.increment == 0 || terms.increment > MOST_INCREMENT {
+        return Err(23);
+    }
+    if terms.exercised < total && terms.blocks() > MOST_BLOCKS {
+        return Err(24);
+    }
+    Ok(())
+}
+
 /// The first refusal of the allocating call that applies, the draw left aside, or T.
-pub fn judge(method: u8, list: List, exercised: u32, room: usize) -> Result<u32, u32> {
-    let total = judge_list(method, list, room)?;
-    first(&[(8, exercised == 0), (9, exercised > total)])?;
+pub fn judge(terms: Terms, list: List, room: usize) -> Result<u32, u32> {
+    let total = judge_list(terms.method, list, room)?;
+    first(&[(8, terms.exercised == 0), (9, terms.exercised > total)])?;
+    if terms.method == b'W' {
+        judge_increment(terms, total)?;
+    }
     Ok(total)
 }
 
-pub fn judge_draw(method: u8, total: u32, draw: u32) -> Result<(), u32> {
-    let range = match method {
+pub fn judge_draw(terms: Terms, total: u32) -> Result<(), u32> {
+    let range = match terms.method {
         b'W' => 1..=total,
         b'L' => 1..=10_000,
         _ => 0..=u32::MAX,
     };
-    if range.contains(&draw) {
+    if range.contains(&terms.draw) {
         Ok(())
     } else {
         Err(10)
@@ -163,33 +202,33 @@ pub fn judge_draw(method: u8, total: u32, draw: u32) -> Result<(), u32> {
 }
 
 /// The amounts where no draw is asked for: S equal to T under W, L and R, then one position under L and R.
-fn without_draw(method: u8, shorts: &[u32], total: u32, exercised: u32) -> Option<Vec<u32>> {
-    match method {
-        b'W' | b'L' | b'R' if exercised == total => Some(shorts.to_vec()),
-        b'L' | b'R' if shorts.len() == 1 => Some(vec![exercised]),
+fn without_draw(terms: Terms, shorts: &[u32], total: u32) -> Option<Vec<u32>> {
+    match terms.method {
+        b'W' | b'L' | b'R' if terms.exercised == total => Some(shorts.to_vec()),
+        b'L' | b'R' if shorts.len() == 1 => Some(vec![terms.exercised]),
         _ => None,
     }
 }
 
 /// The amounts and the further number that a draw in range leads to.
-pub fn by_draw(method: u8, shorts: &[u32], total: u32, exercised: u32, draw: u32) -> (Vec<u32>, u32) {
-    match method {
-        b'W' => wheel(shorts, total, exercised, draw),
-        b'P' => pro_rata(shorts, total, exercised, draw),
-        b'R' => remainder_draw(shorts, total, exercised, draw),
-        _ => lottery(shorts, total, exercised, draw),
+pub fn by_draw(terms: Terms, shorts: &[u32], total: u32) -> (Vec<u32>, u32) {
+    match terms.method {
+        b'W' => wheel(terms, shorts, total),
+        b'P' => pro_rata(terms, shorts, total),
+        b'R' => remainder_draw(terms, shorts, total),
+        _ => lottery(terms, shorts, total),
     }
 }
 
 /// The allocating call; `room` is the length of its output.
-pub fn allocate(method: u8, list: List, exercised: u32, draw: u32, room: usize) -> Result<Allocation, u32> {
-    let total = judge(method, list, exercised, room)?;
+pub fn allocate(terms: Terms, list: List, room: usize) -> Result<Allocation, u32> {
+    let total = judge(terms, list, room)?;
     let shorts = list.shorts();
-    let (amounts, further) = match without_draw(method, &shorts, total, exercised) {
+    let (amounts, further) = match without_draw(terms, &shorts, total) {
         Some(amounts) => (amounts, 0),
         None => {
-            judge_draw(method, total, draw)?;
-            by_draw(method, &shorts, total, exercised, draw)
+            judge_draw(terms, total)?;
+            by_draw(terms, &shorts, total)
         }
     };
     Ok(Allocation { amounts, total, further })
@@ -207,24 +246,24 @@ fn owners(shorts: &[u32]) -> Vec<u16> {
 }
 
 /// T / T1 to six places, to the nearest, a half up; less the increment, not below zero.
-pub fn skip_interval(total: u32, blocks: u32) -> u64 {
+pub fn skip_interval(total: u32, blocks: u32, increment: u32) -> u64 {
     let exact = u64::from(total) * 1_000_000;
     let by = u64::from(blocks);
     let mut millionths = exact / by;
     if exact % by >= by - exact % by {
         millionths += 1;
     }
-    millionths.saturating_sub(INCREMENT * 1_000_000)
+    millionths.saturating_sub(u64::from(increment) * 1_000_000)
 }
 
 /// Steps the counter round the wheel one contract at a time; calls `mark` with the number of the
 /// block, from 1, and the place of each contract in it. Answers T1.
-pub fn turn(total: u32, exercised: u32, draw: u32, mut mark: impl FnMut(u32, u32)) -> u32 {
-    let blocks = u64::from(exercised).div_ceil(INCREMENT) as u32;
-    let interval = skip_interval(total, blocks);
+pub fn turn(terms: Terms, total: u32, mut mark: impl FnMut(u32, u32)) -> u32 {
+    let blocks = terms.blocks();
+    let interval = skip_interval(total, blocks, terms.increment);
     let next = |place: u32| if place == total { 1 } else { place + 1 };
-    let mut place = draw;
-    let mut left = exercised;
+    let mut place = terms.draw;
+    let mut left = terms.exercised;
     let mut reserve = 0;
     for block in 1..=blocks {
         if block > 1 {
@@ -234,7 +273,7 @@ pub fn turn(total: u32, exercised: u32, draw: u32, mut mark: impl FnMut(u32, u32
                 place = next(place);
             }
         }
-        for _ in 0..left.min(INCREMENT as u32) {
+        for _ in 0..left.min(terms.increment) {
             mark(block, place);
             place = next(place);
             left -= 1;
@@ -243,13 +282,13 @@ pub fn turn(total: u32, exercised: u32, draw: u32, mut mark: impl FnMut(u32, u32
     blocks
 }
 
-fn wheel(shorts: &[u32], total: u32, exercised: u32, draw: u32) -> (Vec<u32>, u32) {
+fn wheel(terms: Terms, shorts: &[u32], total: u32) -> (Vec<u32>, u32) {
     let owners = owners(shorts);
     let mut marked = vec![false; owners.len()];
     let mut amounts = vec![0; shorts.len()];
-    let blocks = turn(total, exercised, draw, |_, place| {
+    let blocks = turn(terms, total, |_, place| {
         let at = place as usize - 1;
-        assert!(!marked[at], "contract {place} is marked twice: T {total}, S {exercised}, draw {draw}");
+        assert!(!marked[at], "contract {place} is marked twice: T {total}, {terms:?}");
         marked[at] = true;
         amounts[owners[at] as usize] += 1;
     });
@@ -275,8 +314,8 @@ pub fn cut_off(shorts: &[u32], exercised: u32) -> Option<u32> {
     (remaining > 0).then(|| decimals[remaining - 1])
 }
 
-fn pro_rata(shorts: &[u32], total: u32, exercised: u32, draw: u32) -> (Vec<u32>, u32) {
-    let (mut amounts, decimals, remaining) = round_one(shorts, total, exercised);
+fn pro_rata(terms: Terms, shorts: &[u32], total: u32) -> (Vec<u32>, u32) {
+    let (mut amounts, decimals, remaining) = round_one(shorts, total, terms.exercised);
     if remaining > 0 {
         let mut ranked: Vec<usize> = (0..shorts.len()).collect();
         ranked.sort_by_key(|&p| Reverse(decimals[p]));
@@ -286,7 +325,7 @@ fn pro_rata(shorts: &[u32], total: u32, exercised: u32, draw: u32) -> (Vec<u32>,
         for &p in &larger {
             amounts[p] += 1;
         }
-        let begin = draw as usize % equal.len();
+        let begin = terms.draw as usize % equal.len();
         for &p in equal.iter().cycle().skip(begin).take(remaining - larger.len()) {
             amounts[p] += 1;
         }
@@ -299,11 +338,11 @@ pub fn starting_place(total: u32, draw: u32) -> u32 {
     (u64::from(draw) * u64::from(total)).div_ceil(10_000) as u32
 }
 
-fn lottery(shorts: &[u32], total: u32, exercised: u32, draw: u32) -> (Vec<u32>, u32) {
+fn lottery(terms: Terms, shorts: &[u32], total: u32) -> (Vec<u32>, u32) {
     let owners = owners(shorts);
-    let start = starting_place(total, draw);
+    let start = starting_place(total, terms.draw);
     let mut amounts = vec![0; shorts.len()];
-    for k in 0..exercised {
+    for k in 0..terms.exercised {
         let contract = (start - 1 + k) % total + 1;
         amounts[owners[contract as usize - 1] as usize] += 1;
     }
@@ -331,14 +370,14 @@ pub fn ranges(shorts: &[u32]) -> Vec<[u32; 4]> {
 
 /// Starts one above what the draw leaves over when divided by T, and selects contracts one by one, each from the
 /// position with the range that it falls into: the first ranges in list order, then the second ones.
-fn remainder_draw(shorts: &[u32], total: u32, exercised: u32, draw: u32) -> (Vec<u32>, u32) {
+fn remainder_draw(terms: Terms, shorts: &[u32], total: u32) -> (Vec<u32>, u32) {
     let ranges = ranges(shorts);
     let first_ranges = ranges.iter().map(|range| (range[0], range[1]));
     let mut in_turn = first_ranges.chain(ranges.iter().map(|range| (range[2], range[3]))).enumerate();
-    let start = draw % total + 1;
+    let start = terms.draw % total + 1;
     let mut amounts = vec![0; shorts.len()];
     let (mut at, (mut first, mut last)) = in_turn.next().expect("a range");
-    for contract in start..start + exercised {
+    for contract in start..start + terms.exercised {
         while contract > last {
             (at, (first, last)) = in_turn.next().expect("a range");
         }
@@ -372,6 +411,15 @@ fn fields(line: &[u8], count: usize) -> Result<Vec<&[u8]>, u32> {
     }
 }
 
+/// Line 1.
+fn names_1(with_increment: bool) -> &'static [u8] {
+    if with_increment {
+        b"method,exercised,draw,increment\n"
+    } else {
+        b"method,exercised,draw\n"
+    }
+}
+
 /// Line 3.
 fn names_3(with_code: bool, form: Form) -> &'static [u8] {
     match (with_code, form) {
@@ -394,25 +442,32 @@ fn columns_of(line: &[u8]) -> Result<(bool, Form), u32> {
     Err(12)
 }
 
+/// The terms in a line 2.
+fn terms_of(line: &[u8], with_increment: bool) -> Result<Terms, u32> {
+    let line = fields(line, if with_increment { 4 } else { 3 })?;
+    let method = match line[0] {
+        [byte] if known(*byte) => *byte,
+        _ => return Err(14),
+    };
+    let terms = Terms::new(method, number(line[1])?, number(line[2])?);
+    Ok(if with_increment { terms.by(number(line[3])?) } else { terms })
+}
+
 /// Reads a text without regard to the room of the lent lists.
 pub fn read_text(text: &[u8]) -> Result<Series, u32> {
     if text.len() > MOST_BYTES {
         return Err(11);
     }
     let mut lines = text.split_inclusive(|&b| b == b'\n');
-    if lines.next() != Some(NAMES_1) {
+    let line_1 = lines.next().unwrap_or(b"");
+    let with_increment = line_1 == names_1(true);
+    if !with_increment && line_1 != names_1(false) {
         return Err(12);
     }
-    let line = fields(lines.next().unwrap_or(b""), 3)?;
-    let method = match line[0] {
-        [byte] if known(*byte) => *byte,
-        _ => return Err(14),
-    };
-    let exercised = number(line[1])?;
-    let draw = number(line[2])?;
+    let terms = terms_of(lines.next().unwrap_or(b""), with_increment)?;
     let (with_code, form) = columns_of(lines.next().unwrap_or(b""))?;
     let columns = if with_code { 3 } else { 2 };
-    let mut series = Series { method, exercised, draw, form, codes: vec![], accounts: vec![], numbers: vec![] };
+    let mut series = Series { terms, form, codes: vec![], accounts: vec![], numbers: vec![] };
     for line in lines {
         if series.numbers.len() == MOST_LINES {
             return Err(15);
@@ -435,11 +490,18 @@ pub fn read(text: &[u8], rooms: [usize; 3]) -> Result<Series, u32> {
     Ok(series)
 }
 
-/// The bytes of a series; with the code column where a code is not the account of its position.
-fn text_of(method: u8, exercised: u32, draw: u32, list: List) -> Vec<u8> {
+/// The bytes of a series; with the increment where it is not 25, and with the code column where a code is not the
+/// account of its position.
+fn text_of(terms: Terms, list: List) -> Vec<u8> {
+    let Terms { method, exercised, draw, increment } = terms;
+    let with_increment = increment != DEFAULT_INCREMENT;
     let with_code = list.codes != list.accounts;
-    let mut text = NAMES_1.to_vec();
-    text.extend(format!("{},{exercised},{draw}\n", char::from(method)).bytes());
+    let mut text = names_1(with_increment).to_vec();
+    text.extend(format!("{},{exercised},{draw}", char::from(method)).bytes());
+    if with_increment {
+        text.extend(format!(",{increment}").bytes());
+    }
+    text.push(b'\n');
     text.extend(names_3(with_code, list.form));
     for ((code, account), number) in list.codes.iter().zip(list.accounts).zip(list.numbers) {
         if with_code {
@@ -451,10 +513,10 @@ fn text_of(method: u8, exercised: u32, draw: u32, list: List) -> Vec<u8> {
 }
 
 /// The writing call; `room` is the length of its output.
-pub fn write(method: u8, exercised: u32, draw: u32, list: List, room: usize) -> Result<Vec<u8>, u32> {
+pub fn write(terms: Terms, list: List, room: usize) -> Result<Vec<u8>, u32> {
     let [codes, accounts, numbers] = [list.codes, list.accounts, list.numbers].map(<[u32]>::len);
-    first(&[(14, !known(method)), (1, codes != numbers || accounts != numbers), (15, numbers > MOST_LINES)])?;
-    let text = text_of(method, exercised, draw, list);
+    first(&[(14, !known(terms.method)), (1, codes != numbers || accounts != numbers), (15, numbers > MOST_LINES)])?;
+    let text = text_of(terms, list);
     first(&[(11, text.len() > MOST_BYTES), (4, room < text.len())])?;
     Ok(text)
 }
@@ -463,12 +525,12 @@ pub fn write(method: u8, exercised: u32, draw: u32, list: List, room: usize) -> 
 fn changed(text: &[u8]) -> Result<Vec<u8>, u32> {
     let series = read_text(text)?;
     let list = series.list();
-    judge_list(series.method, list, list.numbers.len())?;
+    judge_list(series.terms.method, list, list.numbers.len())?;
     let (form, numbers) = match list.form {
         Form::Shorts => (Form::LastNumbers, list.last_numbers()),
         Form::LastNumbers => (Form::Shorts, list.shorts()),
     };
-    Ok(text_of(series.method, series.exercised, series.draw, List { form, numbers: &numbers, ..list }))
+    Ok(text_of(series.terms, List { form, numbers: &numbers, ..list }))
 }
 
 /// The changing call; `room` is the length of its output.
@@ -491,12 +553,12 @@ pub fn printed_change(text: &[u8]) -> Vec<u8> {
 fn assigned(text: &[u8]) -> Result<Vec<u8>, u32> {
     let series = read_text(text)?;
     let list = series.list();
-    let found = allocate(series.method, list, series.exercised, series.draw, list.numbers.len())?;
+    let found = allocate(series.terms, list, list.numbers.len())?;
     let mut out = String::from("account,assigned\n");
     for (account, amount) in list.accounts.iter().zip(&found.amounts) {
         out.push_str(&format!("{account},{amount}\n"));
     }
-    if series.method == b'R' {
+    if series.terms.method == b'R' {
         out.push_str("account,first,last,first2,last2\n");
         for (account, [first, last, first2, last2]) in list.accounts.iter().zip(ranges(&list.shorts())) {
             out.push_str(&format!("{account},{first},{last},{first2},{last2}\n"));

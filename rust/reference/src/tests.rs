@@ -1,5 +1,7 @@
 use super::*;
 
+mod increments;
+
 // Method, shorts, S, draw, amounts, T and the further number, from the document's table.
 type Known = (u8, &'static [u32], u32, u32, &'static [u32], u32, u32);
 const KNOWN: [Known; 12] = [
@@ -35,16 +37,17 @@ fn by_account(
     draw: u32,
     room: usize,
 ) -> Result<Allocation, u32> {
-    allocate(method, List::by_account(accounts, shorts), exercised, draw, room)
+    allocate(Terms::new(method, exercised, draw), List::by_account(accounts, shorts), room)
 }
 
 fn answer(method: u8, shorts: &[u32], exercised: u32, draw: u32) -> Result<Allocation, u32> {
     by_account(method, &upward(shorts.len()), shorts, exercised, draw, shorts.len())
 }
 
-fn blocks(total: u32, exercised: u32, draw: u32) -> Vec<(u32, u32)> {
+// The first and last place of each block under W.
+fn blocks(terms: Terms, total: u32) -> Vec<(u32, u32)> {
     let mut all: Vec<(u32, u32)> = Vec::new();
-    turn(total, exercised, draw, |block, place| {
+    turn(terms, total, |block, place| {
         if all.len() < block as usize {
             all.push((place, place));
         }
@@ -64,21 +67,23 @@ fn series_with_known_amounts() {
 #[test]
 fn blocks_of_the_source_example() {
     let expected = [(1, 25), (51, 75), (102, 126), (153, 177), (203, 227), (254, 278), (305, 329)];
-    assert_eq!(blocks(355, 175, 1), expected);
-    assert_eq!(skip_interval(355, 7), 25_714_286);
+    assert_eq!(blocks(Terms::new(b'W', 175, 1), 355), expected);
+    assert_eq!(skip_interval(355, 7, 25), 25_714_286);
 }
 
 #[test]
 fn readings_that_look_the_same() {
-    assert_eq!(skip_interval(30, 2), 0);
-    assert_eq!(skip_interval(100, 2), 25_000_000);
-    assert_eq!(skip_interval(154, 6), 666_667);
-    assert_eq!(blocks(154, 150, 1)[3].0, 78);
-    assert_eq!(blocks(355, 175, 1)[2].0, 102);
+    assert_eq!(skip_interval(30, 2, 25), 0);
+    assert_eq!(skip_interval(100, 2, 25), 25_000_000);
+    assert_eq!(skip_interval(154, 6, 25), 666_667);
+    assert_eq!(blocks(Terms::new(b'W', 150, 1), 154)[3].0, 78);
+    assert_eq!(blocks(Terms::new(b'W', 175, 1), 355)[2].0, 102);
     assert_eq!(starting_place(36, 4855), 18);
     // An exact half goes up: 3201 / 128 = 25.0078125.
-    assert_eq!(skip_interval(3201, 128), 7_813);
-    assert_eq!(skip_interval(3203, 128), 23_438);
+    assert_eq!(skip_interval(3201, 128, 25), 7_813);
+    assert_eq!(skip_interval(3203, 128, 25), 23_438);
+    assert_eq!(skip_interval(3201, 128, 1), 24_007_813);
+    assert_eq!(skip_interval(3201, 128, 26), 0);
 }
 
 #[test]
@@ -89,11 +94,11 @@ fn case_m_in_full() {
     assert_eq!(respond(text, output.len()), Ok(output.to_vec()));
     assert_eq!(respond(text, output.len() - 1), Err(4));
     let series = read(text, [5; 3]).unwrap();
-    assert_eq!((series.method, series.exercised, series.draw), (b'L', 13, 4855));
+    assert_eq!(series.terms, Terms { method: b'L', exercised: 13, draw: 4855, increment: 25 });
     assert_eq!(series.codes, [1, 2, 3, 4, 5]);
     assert_eq!(series.accounts, [1, 2, 3, 4, 5]);
     assert_eq!((series.form, &series.numbers[..]), (Form::Shorts, &SHORTS[..]));
-    assert_eq!(write(b'L', 13, 4855, series.list(), text.len()), Ok(text.to_vec()));
+    assert_eq!(write(series.terms, series.list(), text.len()), Ok(text.to_vec()));
 }
 
 #[test]
@@ -263,6 +268,10 @@ fn text(line_2: &str, line_3: &str, rest: &str) -> Vec<u8> {
     format!("method,exercised,draw\n{line_2}{line_3}{rest}").into_bytes()
 }
 
+fn text_by_increment(line_2: &str, line_3: &str, rest: &str) -> Vec<u8> {
+    format!("method,exercised,draw,increment\n{line_2}{line_3}{rest}").into_bytes()
+}
+
 #[test]
 fn reading_refusals_in_order() {
     let good = NAMES;
@@ -312,7 +321,7 @@ fn reading_refusals_in_order() {
         assert_eq!(read_text(&text("W,1,1\n", good, line)), Err(13), "{line:?}");
     }
     let empty = read_text(&text("P,0,4294967295\n", good, "")).unwrap();
-    assert_eq!((empty.exercised, empty.draw, empty.accounts.len()), (0, u32::MAX, 0));
+    assert_eq!((empty.terms, empty.accounts.len()), (Terms::new(b'P', 0, u32::MAX), 0));
     let most = "0,0\n".repeat(1_024);
     assert_eq!(read_text(&text("W,1,1\n", good, &most)).unwrap().accounts.len(), 1_024);
     for extra in ["0,0\n", "\n", "x", "0,0", "00000000001,1\n"] {
@@ -332,19 +341,20 @@ fn reading_refusals_in_order() {
     assert_eq!(read(&text("W,1,1\n", good, "1,1\nx\n"), [0; 3]), Err(13));
 }
 
-// What a number reads as: as S, draw, account and shorts, then as S, draw, code, account and shorts.
-fn read_in_each_field(number: &str) -> [Result<u32, u32>; 9] {
+// What a number reads as: as S, draw, account and shorts, then as S, draw, increment, code, account and shorts.
+fn read_in_each_field(number: &str) -> [Result<u32, u32>; 10] {
     std::array::from_fn(|field| {
-        let mut numbers = ["1"; 9];
+        let mut numbers = ["1"; 10];
         numbers[field] = number;
-        let [exercised, draw, account, short, exercised_2, draw_2, code_2, account_2, short_2] = numbers;
+        let [exercised, draw, account, short, exercised_2, draw_2, increment_2, code_2, account_2, short_2] = numbers;
         let short_form = text(&format!("W,{exercised},{draw}\n"), NAMES, &format!("{account},{short}\n"));
-        let lines = format!("{code_2},{account_2},{short_2}\n");
-        let long_form = text(&format!("W,{exercised_2},{draw_2}\n"), LONG_NAMES, &lines);
+        let line_2 = format!("W,{exercised_2},{draw_2},{increment_2}\n");
+        let long_form = text_by_increment(&line_2, LONG_NAMES, &format!("{code_2},{account_2},{short_2}\n"));
         let (a, b) = (read_text(&short_form)?, read_text(&long_form)?);
-        assert_eq!(a.codes, a.accounts);
-        let found = [a.exercised, a.draw, a.accounts[0], a.numbers[0]];
-        Ok([&found[..], &[b.exercised, b.draw, b.codes[0], b.accounts[0], b.numbers[0]]].concat()[field])
+        assert_eq!((&a.codes, a.terms.increment), (&a.accounts, 25));
+        let found = [a.terms.exercised, a.terms.draw, a.accounts[0], a.numbers[0]];
+        let terms = [b.terms.exercised, b.terms.draw, b.terms.increment];
+        Ok([&found[..], &terms, &[b.codes[0], b.accounts[0], b.numbers[0]]].concat()[field])
     })
 }
 
@@ -363,7 +373,7 @@ fn spellings_of_a_number() {
         ("1000000000", 1_000_000_000),
         ("4294967295", u32::MAX),
     ] {
-        assert_eq!(read_in_each_field(number), [Ok(value); 9], "{number}");
+        assert_eq!(read_in_each_field(number), [Ok(value); 10], "{number}");
     }
     for number in [
         "",
@@ -380,7 +390,7 @@ fn spellings_of_a_number() {
         "-01",
         "000000000\u{661}",
     ] {
-        assert_eq!(read_in_each_field(number), [Err(13); 9], "{number:?}");
+        assert_eq!(read_in_each_field(number), [Err(13); 10], "{number:?}");
     }
 }
 
@@ -405,14 +415,15 @@ fn two_spellings_are_one_account() {
 fn spelling_changes_nothing_that_is_written() {
     for (method, shorts, exercised, draw, ..) in KNOWN {
         let accounts = upward(shorts.len());
-        let written = write(method, exercised, draw, List::by_account(&accounts, shorts), MOST_BYTES).unwrap();
+        let terms = Terms::new(method, exercised, draw);
+        let written = write(terms, List::by_account(&accounts, shorts), MOST_BYTES).unwrap();
         for width in 1..=MOST_DIGITS {
             let line_2 = format!("{},{exercised:0width$},{draw:0width$}\n", char::from(method));
             let lines = accounts.iter().zip(shorts).map(|(a, s)| format!("{a:0width$},{s:0width$}\n"));
             let spelled = text(&line_2, "account,short\n", &lines.collect::<String>());
             assert_eq!(printed(&spelled), printed(&written), "{width}");
             let series = read_text(&spelled).unwrap();
-            let again = write(method, series.exercised, series.draw, series.list(), written.len());
+            let again = write(series.terms, series.list(), written.len());
             assert_eq!(again.as_ref(), Ok(&written), "{width}");
         }
     }
@@ -424,7 +435,7 @@ fn writing_refusals_in_order() {
     for form in FORMS {
         let written = |method, [codes, accounts, numbers]: [usize; 3], room| {
             let list = List { form, codes: &zeros[..codes], accounts: &zeros[..accounts], numbers: &zeros[..numbers] };
-            write(method, 0, 0, list, room)
+            write(Terms::new(method, 0, 0), list, room)
         };
         assert_eq!(written(b'w', [1, 1, 0], 0), Err(14));
         for lengths in [[1_024, 1_025, 1_025], [1_025, 1_024, 1_025], [1_025, 1_025, 1_024], [0, 1, 1], [0, 1, 2]] {
@@ -435,10 +446,11 @@ fn writing_refusals_in_order() {
     }
     for (form, line_3) in [(Form::Shorts, "account,short\n"), (Form::LastNumbers, "account,last\n")] {
         let none = List { form, ..List::by_account(&[], &[]) };
-        let written = write(b'P', 0, u32::MAX, none, 100).unwrap();
+        let terms = Terms::new(b'P', 0, u32::MAX);
+        let written = write(terms, none, 100).unwrap();
         assert_eq!(written, text("P,0,4294967295\n", line_3, ""));
-        assert_eq!(write(b'P', 0, u32::MAX, none, written.len()), Ok(written.clone()));
-        assert_eq!(write(b'P', 0, u32::MAX, none, written.len() - 1), Err(4));
+        assert_eq!(write(terms, none, written.len()), Ok(written.clone()));
+        assert_eq!(write(terms, none, written.len() - 1), Err(4));
     }
 }
 
@@ -461,7 +473,7 @@ fn writing_at_most_32_768_bytes() {
         codes[1_022] = last;
         let list = List { form, codes: &codes, accounts: &accounts, numbers: &numbers };
         for room in [0, 32_767, 32_768, 32_771, 40_000] {
-            let found = write(b'W', 0, 0, list, room).map(|text| text.len());
+            let found = write(Terms::new(b'W', 0, 0), list, room).map(|text| text.len());
             let expected = if room < 32_768 { Err(4) } else { Ok(length) };
             assert_eq!(found, if length > 32_768 { Err(11) } else { expected }, "{last} {room}");
         }
@@ -492,17 +504,18 @@ const CODED_TEXT: &str = "method,exercised,draw\nW,175,1\ncode,account,short\n3,
 
 #[test]
 fn the_wheel_goes_by_code() {
-    let found = allocate(b'W', CODED, 175, 1, 3);
+    let found = allocate(Terms::new(b'W', 175, 1), CODED, 3);
     assert_eq!(found, Ok(Allocation { amounts: vec![35, 97, 43], total: 355, further: 7 }));
     for method in *b"PLR" {
-        assert_eq!(allocate(method, CODED, 175, 1, 3), Err(5));
+        assert_eq!(allocate(Terms::new(method, 175, 1), CODED, 3), Err(5));
     }
 }
 
 // The number that W meets with one contract exercised of a list, and P, L and R with the same.
 fn met(codes: &[u32], accounts: &[u32], shorts: &[u32]) -> [u32; 2] {
     let list = List { form: Form::Shorts, codes, accounts, numbers: shorts };
-    let [w, p, l, r] = METHODS.map(|method| allocate(method, list, 1, 1, 9).map_or_else(|number| number, |_| 0));
+    let met = |method| allocate(Terms::new(method, 1, 1), list, 9).map_or_else(|number| number, |_| 0);
+    let [w, p, l, r] = METHODS.map(met);
     assert_eq!((l, r), (p, p), "{list:?}");
     [w, p]
 }
@@ -548,9 +561,9 @@ fn codes_and_accounts_are_judged() {
 fn texts_with_codes() {
     let series = read(CODED_TEXT.as_bytes(), [3; 3]).unwrap();
     assert_eq!((&series.codes[..], &series.accounts[..]), (CODED.codes, CODED.accounts));
-    assert_eq!((series.method, &series.numbers[..]), (b'W', CODED.numbers));
-    assert_eq!(write(b'W', 175, 1, CODED, CODED_TEXT.len()).unwrap(), CODED_TEXT.as_bytes());
-    assert_eq!(write(b'W', 175, 1, CODED, CODED_TEXT.len() - 1), Err(4));
+    assert_eq!((series.terms, &series.numbers[..]), (Terms::new(b'W', 175, 1), CODED.numbers));
+    assert_eq!(write(series.terms, CODED, CODED_TEXT.len()).unwrap(), CODED_TEXT.as_bytes());
+    assert_eq!(write(series.terms, CODED, CODED_TEXT.len() - 1), Err(4));
     assert_eq!(printed(CODED_TEXT.as_bytes()), b"account,assigned\n20,35\n4,97\n11,43\n");
     for (lines, number) in [
         ("1,1\n", 13),
@@ -589,7 +602,7 @@ fn a_code_column_that_says_nothing_is_left_out() {
         ("5,6,9\n6,5,9\n", "code,account,short\n5,6,9\n6,5,9\n"),
     ] {
         let series = read_text(&text("W,1,1\n", LONG_NAMES, lines)).unwrap();
-        let found = write(b'W', 1, 1, series.list(), MOST_BYTES).unwrap();
+        let found = write(series.terms, series.list(), MOST_BYTES).unwrap();
         assert_eq!(String::from_utf8_lossy(&found), format!("method,exercised,draw\nW,1,1\n{written}"));
         assert_eq!(read_text(&found), Ok(series));
     }
@@ -680,7 +693,7 @@ const LASTS: [u32; 5] = [5, 13, 15, 25, 36];
 
 fn by_last(accounts: &[u32], lasts: &[u32], exercised: u32, draw: u32) -> [Result<Allocation, u32>; 4] {
     let list = List { form: Form::LastNumbers, ..List::by_account(accounts, lasts) };
-    METHODS.map(|method| allocate(method, list, exercised, draw, lasts.len()))
+    METHODS.map(|method| allocate(Terms::new(method, exercised, draw), list, lasts.len()))
 }
 
 #[test]
@@ -748,7 +761,7 @@ fn last_numbers_are_judged() {
     assert_eq!(by_last(&[1, 2], &[9_999_999, 10_000_000], 10_000_001, 0), [(); 4].map(|_| Err(9)));
     let by_code = |accounts, lasts| {
         let list = List { form: Form::LastNumbers, codes: &[3, 7, 9], accounts, numbers: lasts };
-        allocate(b'W', list, 1, 1, 3).map(|found| found.total)
+        allocate(Terms::new(b'W', 1, 1), list, 3).map(|found| found.total)
     };
     assert_eq!(by_code(&[20, 4, 11], &[60, 260, 355]), Ok(355));
     assert_eq!(by_code(&[20, 4, 20], &[60, 260, 260]), Err(19));
@@ -765,7 +778,7 @@ fn texts_of_last_numbers() {
         let series = read(&spelled, [3; 3]).unwrap();
         assert_eq!((series.form, &series.codes[..]), (Form::LastNumbers, &codes[..]));
         assert_eq!((&series.accounts[..], &series.numbers[..]), (&[20, 4, 11][..], &[60, 60, 0][..]));
-        let written = write(b'W', 0, u32::MAX, series.list(), spelled.len() - 1).unwrap();
+        let written = write(series.terms, series.list(), spelled.len() - 1).unwrap();
         assert_eq!(String::from_utf8_lossy(&written), String::from_utf8_lossy(&spelled).replace(",060\n", ",60\n"));
     }
     for (lines, number) in [("1,1\n", 13), ("1,1,1,1\n", 13), ("", 3), ("1,0,0\n", 19), ("1,5,1\n2,6,1\n", 20)] {
@@ -795,7 +808,8 @@ fn the_source_table_there_and_back() {
 #[test]
 fn ranges_from_last_numbers() {
     let accounts = upward(10);
-    let shorts = write(b'R', 50, 395, List::by_account(&accounts, &EXHIBIT), MOST_BYTES).unwrap();
+    let list = List::by_account(&accounts, &EXHIBIT);
+    let shorts = write(Terms::new(b'R', 50, 395), list, MOST_BYTES).unwrap();
     let lasts = change(&shorts, MOST_CHANGED).unwrap();
     assert!(lasts.ends_with(b"account,last\n1,1\n2,51\n3,151\n4,153\n5,154\n6,155\n7,1155\n8,1156\n9,1166\n10,1186\n"));
     assert_eq!(printed(&lasts), printed(&shorts));
@@ -883,17 +897,20 @@ fn refused_changes() {
     }
 }
 
-// Ten digits in each code and account, in S and the draw; of the last numbers only T can have eight.
+// Ten digits in each code and account, in S, the draw and the increment; of the last numbers only T can have eight.
 #[test]
 fn the_longest_changed_text() {
-    assert_eq!(MOST_CHANGED, 31_809);
+    assert_eq!(MOST_CHANGED, 31_830);
     let codes: Vec<u32> = (u32::MAX - 1_023..=u32::MAX).collect();
     let accounts: Vec<u32> = codes.iter().rev().copied().collect();
     let mut shorts = vec![1; 1_024];
     (shorts[0], shorts[1_023]) = (1_000_000, 8_998_978);
     let list = List { form: Form::Shorts, codes: &codes, accounts: &accounts, numbers: &shorts };
-    let whole = write(b'W', u32::MAX, u32::MAX, list, MOST_BYTES).unwrap();
-    let changed = change(&whole, MOST_CHANGED).unwrap();
-    assert_eq!(changed.len(), 22 + 24 + 18 + 1_023 * 30 + 31);
-    assert_eq!(change(&changed, whole.len()), Ok(whole));
+    let terms = Terms::new(b'W', u32::MAX, u32::MAX);
+    for (terms, head) in [(terms, 22 + 24), (terms.by(u32::MAX), 32 + 35)] {
+        let whole = write(terms, list, MOST_BYTES).unwrap();
+        let changed = change(&whole, MOST_CHANGED).unwrap();
+        assert_eq!(changed.len(), head + 18 + 1_023 * 30 + 31);
+        assert_eq!(change(&changed, whole.len()), Ok(whole));
+    }
 }
