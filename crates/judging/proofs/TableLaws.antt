@@ -39,9 +39,9 @@ flipped b false e = rw e
 -- ---- the increment
 
 -- T1 is above 1,000,000 exactly where S is above 1,000,000 increments
-blocks-above : (I S : ℕ) → 0 < I → ltb (1000000 * I) S ≡ ltb MOST_BLOCKS (blocks I S)
+blocks-by-increments : (I S : ℕ) → 0 < I → ltb (1000000 * I) S ≡ ltb MOST_BLOCKS (blocks I S)
 unfolding blocks
-blocks-above I S some =
+blocks-by-increments I S some =
     let q : ℕ = (S + (I - 1)) / I in
     let low : I * q ≤ S + (I - 1) = mul-div-le (S + (I - 1)) I in
     let high : S + (I - 1) < I * (q + 1) = lt-mul-div-succ (S + (I - 1)) some in
@@ -52,7 +52,7 @@ blocks-above I S some =
 
 pub too-many : (I T S : ℕ) → 0 < I → (ltb S T && ltb (1000000 * I) S) ≡ tooManyBlocks I T S
 unfolding tooManyBlocks
-too-many I T S some = ap (ltb S T &&_) (blocks-above I S some)
+too-many I T S some = ap (ltb S T &&_) (blocks-by-increments I S some)
 
 -- by the answers of the two tests
 increment-rows : (t : Terms) (T : ℕ) → t .method ≡ Method.Wheel → (within crowded : Bool) → within ≡ not (outside MOST_INCREMENT (t .increment .0)) → crowded ≡ tooManyBlocks (t .increment .0) T (t .exercised .0)

@@ -150,161 +150,161 @@ same-length c = search needs
 
 returns : tie.Need-returns
 unfolding explanation refusals ascii
-returns c = let a = c .before .before .before .before .before .before .before .args in told (a .number) (a .line .now) (explanation 1) _ _ (ap explanation (c .before .before .before .before .before .match .keys1)) (c .before .before .put .ensures .0) (c .before .before .put .ensures .1)
+returns c = let m = c .before .before .before .before .before in let a = m .before .before .args in told (a .number) (a .line .now) (explanation 1) _ _ (ap explanation (m .match .keys1)) (c .before .before .put .ensures .0) (c .before .before .put .ensures .1)
 
 same-length-2 : tie.Need-same-length-2
 same-length-2 c = search needs
 
 returns-2 : tie.Need-returns-2
 unfolding explanation refusals ascii
-returns-2 c = let a = c .before .before .before .before .before .before .before .args in told (a .number) (a .line .now) (explanation 2) _ _ (ap explanation (c .before .before .before .before .before .match .keys2)) (c .before .before .put2 .ensures .0) (c .before .before .put2 .ensures .1)
+returns-2 c = let m = c .before .before .before .before .before in let a = m .before .before .args in told (a .number) (a .line .now) (explanation 2) _ _ (ap explanation (m .match .keys2)) (c .before .before .put2 .ensures .0) (c .before .before .put2 .ensures .1)
 
 same-length-3 : tie.Need-same-length-3
 same-length-3 c = search needs
 
 returns-3 : tie.Need-returns-3
 unfolding explanation refusals ascii
-returns-3 c = let a = c .before .before .before .before .before .before .before .args in told (a .number) (a .line .now) (explanation 3) _ _ (ap explanation (c .before .before .before .before .before .match .keys3)) (c .before .before .put3 .ensures .0) (c .before .before .put3 .ensures .1)
+returns-3 c = let m = c .before .before .before .before .before in let a = m .before .before .args in told (a .number) (a .line .now) (explanation 3) _ _ (ap explanation (m .match .keys3)) (c .before .before .put3 .ensures .0) (c .before .before .put3 .ensures .1)
 
 same-length-4 : tie.Need-same-length-4
 same-length-4 c = search needs
 
 returns-4 : tie.Need-returns-4
 unfolding explanation refusals ascii
-returns-4 c = let a = c .before .before .before .before .before .before .before .args in told (a .number) (a .line .now) (explanation 4) _ _ (ap explanation (c .before .before .before .before .before .match .keys4)) (c .before .before .put4 .ensures .0) (c .before .before .put4 .ensures .1)
+returns-4 c = let m = c .before .before .before .before .before in let a = m .before .before .args in told (a .number) (a .line .now) (explanation 4) _ _ (ap explanation (m .match .keys4)) (c .before .before .put4 .ensures .0) (c .before .before .put4 .ensures .1)
 
 same-length-5 : tie.Need-same-length-5
 same-length-5 c = search needs
 
 returns-5 : tie.Need-returns-5
 unfolding explanation refusals ascii
-returns-5 c = let a = c .before .before .before .before .before .before .before .args in told (a .number) (a .line .now) (explanation 5) _ _ (ap explanation (c .before .before .before .before .before .match .keys5)) (c .before .before .put5 .ensures .0) (c .before .before .put5 .ensures .1)
+returns-5 c = let m = c .before .before .before .before .before in let a = m .before .before .args in told (a .number) (a .line .now) (explanation 5) _ _ (ap explanation (m .match .keys5)) (c .before .before .put5 .ensures .0) (c .before .before .put5 .ensures .1)
 
 same-length-6 : tie.Need-same-length-6
 same-length-6 c = search needs
 
 returns-6 : tie.Need-returns-6
 unfolding explanation refusals ascii
-returns-6 c = let a = c .before .before .before .before .before .before .before .args in told (a .number) (a .line .now) (explanation 6) _ _ (ap explanation (c .before .before .before .before .before .match .keys6)) (c .before .before .put6 .ensures .0) (c .before .before .put6 .ensures .1)
+returns-6 c = let m = c .before .before .before .before .before in let a = m .before .before .args in told (a .number) (a .line .now) (explanation 6) _ _ (ap explanation (m .match .keys6)) (c .before .before .put6 .ensures .0) (c .before .before .put6 .ensures .1)
 
 same-length-7 : tie.Need-same-length-7
 same-length-7 c = search needs
 
 returns-7 : tie.Need-returns-7
 unfolding explanation refusals ascii
-returns-7 c = let a = c .before .before .before .before .before .before .before .args in told (a .number) (a .line .now) (explanation 7) _ _ (ap explanation (c .before .before .before .before .before .match .keys7)) (c .before .before .put7 .ensures .0) (c .before .before .put7 .ensures .1)
+returns-7 c = let m = c .before .before .before .before .before in let a = m .before .before .args in told (a .number) (a .line .now) (explanation 7) _ _ (ap explanation (m .match .keys7)) (c .before .before .put7 .ensures .0) (c .before .before .put7 .ensures .1)
 
 same-length-8 : tie.Need-same-length-8
 same-length-8 c = search needs
 
 returns-8 : tie.Need-returns-8
 unfolding explanation refusals ascii
-returns-8 c = let a = c .before .before .before .before .before .before .before .args in told (a .number) (a .line .now) (explanation 8) _ _ (ap explanation (c .before .before .before .before .before .match .keys8)) (c .before .before .put8 .ensures .0) (c .before .before .put8 .ensures .1)
+returns-8 c = let m = c .before .before .before .before .before in let a = m .before .before .args in told (a .number) (a .line .now) (explanation 8) _ _ (ap explanation (m .match .keys8)) (c .before .before .put8 .ensures .0) (c .before .before .put8 .ensures .1)
 
 same-length-9 : tie.Need-same-length-9
 same-length-9 c = search needs
 
 returns-9 : tie.Need-returns-9
 unfolding explanation refusals ascii
-returns-9 c = let a = c .before .before .before .before .before .before .before .args in told (a .number) (a .line .now) (explanation 9) _ _ (ap explanation (c .before .before .before .before .before .match .keys9)) (c .before .before .put9 .ensures .0) (c .before .before .put9 .ensures .1)
+returns-9 c = let m = c .before .before .before .before .before in let a = m .before .before .args in told (a .number) (a .line .now) (explanation 9) _ _ (ap explanation (m .match .keys9)) (c .before .before .put9 .ensures .0) (c .before .before .put9 .ensures .1)
 
 same-length-10 : tie.Need-same-length-10
 same-length-10 c = search needs
 
 returns-10 : tie.Need-returns-10
 unfolding explanation refusals ascii
-returns-10 c = let a = c .before .before .before .before .before .before .before .args in told (a .number) (a .line .now) (explanation 10) _ _ (ap explanation (c .before .before .before .before .before .match .keys10)) (c .before .before .put10 .ensures .0) (c .before .before .put10 .ensures .1)
+returns-10 c = let m = c .before .before .before .before .before in let a = m .before .before .args in told (a .number) (a .line .now) (explanation 10) _ _ (ap explanation (m .match .keys10)) (c .before .before .put10 .ensures .0) (c .before .before .put10 .ensures .1)
 
 same-length-11 : tie.Need-same-length-11
 same-length-11 c = search needs
 
 returns-11 : tie.Need-returns-11
 unfolding explanation refusals ascii
-returns-11 c = let a = c .before .before .before .before .before .before .before .args in told (a .number) (a .line .now) (explanation 11) _ _ (ap explanation (c .before .before .before .before .before .match .keys11)) (c .before .before .put11 .ensures .0) (c .before .before .put11 .ensures .1)
+returns-11 c = let m = c .before .before .before .before .before in let a = m .before .before .args in told (a .number) (a .line .now) (explanation 11) _ _ (ap explanation (m .match .keys11)) (c .before .before .put11 .ensures .0) (c .before .before .put11 .ensures .1)
 
 same-length-12 : tie.Need-same-length-12
 same-length-12 c = search needs
 
 returns-12 : tie.Need-returns-12
 unfolding explanation refusals ascii
-returns-12 c = let a = c .before .before .before .before .before .before .before .args in told (a .number) (a .line .now) (explanation 12) _ _ (ap explanation (c .before .before .before .before .before .match .keys12)) (c .before .before .put12 .ensures .0) (c .before .before .put12 .ensures .1)
+returns-12 c = let m = c .before .before .before .before .before in let a = m .before .before .args in told (a .number) (a .line .now) (explanation 12) _ _ (ap explanation (m .match .keys12)) (c .before .before .put12 .ensures .0) (c .before .before .put12 .ensures .1)
 
 same-length-13 : tie.Need-same-length-13
 same-length-13 c = search needs
 
 returns-13 : tie.Need-returns-13
 unfolding explanation refusals ascii
-returns-13 c = let a = c .before .before .before .before .before .before .before .args in told (a .number) (a .line .now) (explanation 13) _ _ (ap explanation (c .before .before .before .before .before .match .keys13)) (c .before .before .put13 .ensures .0) (c .before .before .put13 .ensures .1)
+returns-13 c = let m = c .before .before .before .before .before in let a = m .before .before .args in told (a .number) (a .line .now) (explanation 13) _ _ (ap explanation (m .match .keys13)) (c .before .before .put13 .ensures .0) (c .before .before .put13 .ensures .1)
 
 same-length-14 : tie.Need-same-length-14
 same-length-14 c = search needs
 
 returns-14 : tie.Need-returns-14
 unfolding explanation refusals ascii
-returns-14 c = let a = c .before .before .before .before .before .before .before .args in told (a .number) (a .line .now) (explanation 14) _ _ (ap explanation (c .before .before .before .before .before .match .keys14)) (c .before .before .put14 .ensures .0) (c .before .before .put14 .ensures .1)
+returns-14 c = let m = c .before .before .before .before .before in let a = m .before .before .args in told (a .number) (a .line .now) (explanation 14) _ _ (ap explanation (m .match .keys14)) (c .before .before .put14 .ensures .0) (c .before .before .put14 .ensures .1)
 
 same-length-15 : tie.Need-same-length-15
 same-length-15 c = search needs
 
 returns-15 : tie.Need-returns-15
 unfolding explanation refusals ascii
-returns-15 c = let a = c .before .before .before .before .before .before .before .args in told (a .number) (a .line .now) (explanation 15) _ _ (ap explanation (c .before .before .before .before .before .match .keys15)) (c .before .before .put15 .ensures .0) (c .before .before .put15 .ensures .1)
+returns-15 c = let m = c .before .before .before .before .before in let a = m .before .before .args in told (a .number) (a .line .now) (explanation 15) _ _ (ap explanation (m .match .keys15)) (c .before .before .put15 .ensures .0) (c .before .before .put15 .ensures .1)
 
 same-length-16 : tie.Need-same-length-16
 same-length-16 c = search needs
 
 returns-16 : tie.Need-returns-16
 unfolding explanation refusals ascii
-returns-16 c = let a = c .before .before .before .before .before .before .before .args in told (a .number) (a .line .now) (explanation 16) _ _ (ap explanation (c .before .before .before .before .before .match .keys16)) (c .before .before .put16 .ensures .0) (c .before .before .put16 .ensures .1)
+returns-16 c = let m = c .before .before .before .before .before in let a = m .before .before .args in told (a .number) (a .line .now) (explanation 16) _ _ (ap explanation (m .match .keys16)) (c .before .before .put16 .ensures .0) (c .before .before .put16 .ensures .1)
 
 same-length-17 : tie.Need-same-length-17
 same-length-17 c = search needs
 
 returns-17 : tie.Need-returns-17
 unfolding explanation refusals ascii
-returns-17 c = let a = c .before .before .before .before .before .before .before .args in told (a .number) (a .line .now) (explanation 17) _ _ (ap explanation (c .before .before .before .before .before .match .keys17)) (c .before .before .put17 .ensures .0) (c .before .before .put17 .ensures .1)
+returns-17 c = let m = c .before .before .before .before .before in let a = m .before .before .args in told (a .number) (a .line .now) (explanation 17) _ _ (ap explanation (m .match .keys17)) (c .before .before .put17 .ensures .0) (c .before .before .put17 .ensures .1)
 
 same-length-18 : tie.Need-same-length-18
 same-length-18 c = search needs
 
 returns-18 : tie.Need-returns-18
 unfolding explanation refusals ascii
-returns-18 c = let a = c .before .before .before .before .before .before .before .args in told (a .number) (a .line .now) (explanation 18) _ _ (ap explanation (c .before .before .before .before .before .match .keys18)) (c .before .before .put18 .ensures .0) (c .before .before .put18 .ensures .1)
+returns-18 c = let m = c .before .before .before .before .before in let a = m .before .before .args in told (a .number) (a .line .now) (explanation 18) _ _ (ap explanation (m .match .keys18)) (c .before .before .put18 .ensures .0) (c .before .before .put18 .ensures .1)
 
 same-length-19 : tie.Need-same-length-19
 same-length-19 c = search needs
 
 returns-19 : tie.Need-returns-19
 unfolding explanation refusals ascii
-returns-19 c = let a = c .before .before .before .before .before .before .before .args in told (a .number) (a .line .now) (explanation 19) _ _ (ap explanation (c .before .before .before .before .before .match .keys19)) (c .before .before .put19 .ensures .0) (c .before .before .put19 .ensures .1)
+returns-19 c = let m = c .before .before .before .before .before in let a = m .before .before .args in told (a .number) (a .line .now) (explanation 19) _ _ (ap explanation (m .match .keys19)) (c .before .before .put19 .ensures .0) (c .before .before .put19 .ensures .1)
 
 same-length-20 : tie.Need-same-length-20
 same-length-20 c = search needs
 
 returns-20 : tie.Need-returns-20
 unfolding explanation refusals ascii
-returns-20 c = let a = c .before .before .before .before .before .before .before .args in told (a .number) (a .line .now) (explanation 20) _ _ (ap explanation (c .before .before .before .before .before .match .keys20)) (c .before .before .put20 .ensures .0) (c .before .before .put20 .ensures .1)
+returns-20 c = let m = c .before .before .before .before .before in let a = m .before .before .args in told (a .number) (a .line .now) (explanation 20) _ _ (ap explanation (m .match .keys20)) (c .before .before .put20 .ensures .0) (c .before .before .put20 .ensures .1)
 
 same-length-21 : tie.Need-same-length-21
 same-length-21 c = search needs
 
 returns-21 : tie.Need-returns-21
 unfolding explanation refusals ascii
-returns-21 c = let a = c .before .before .before .before .before .before .before .args in told (a .number) (a .line .now) (explanation 23) _ _ (ap explanation (c .before .before .before .before .before .match .keys21)) (c .before .before .put21 .ensures .0) (c .before .before .put21 .ensures .1)
+returns-21 c = let m = c .before .before .before .before .before in let a = m .before .before .args in told (a .number) (a .line .now) (explanation 23) _ _ (ap explanation (m .match .keys21)) (c .before .before .put21 .ensures .0) (c .before .before .put21 .ensures .1)
 
 same-length-22 : tie.Need-same-length-22
 same-length-22 c = search needs
 
 returns-22 : tie.Need-returns-22
 unfolding explanation refusals ascii
-returns-22 c = let a = c .before .before .before .before .before .before .before .args in told (a .number) (a .line .now) (explanation 24) _ _ (ap explanation (c .before .before .before .before .before .match .keys22)) (c .before .before .put22 .ensures .0) (c .before .before .put22 .ensures .1)
+returns-22 c = let m = c .before .before .before .before .before in let a = m .before .before .args in told (a .number) (a .line .now) (explanation 24) _ _ (ap explanation (m .match .keys22)) (c .before .before .put22 .ensures .0) (c .before .before .put22 .ensures .1)
 
 same-length-23 : tie.Need-same-length-23
 same-length-23 c = search needs
 
 returns-23 : tie.Need-returns-23
 unfolding noRefusal ascii
-returns-23 c = let a = c .before .before .before .before .before .before .before .args in told (a .number) (a .line .now) noRefusal _ _ (no-refusal _ (c .before .before .before .before .before .match .rest)) (c .before .before .put23 .ensures .0) (c .before .before .put23 .ensures .1)
+returns-23 c = let m = c .before .before .before .before .before in let a = m .before .before .args in told (a .number) (a .line .now) noRefusal _ _ (no-refusal _ (m .match .rest)) (c .before .before .put23 .ensures .0) (c .before .before .put23 .ensures .1)
 
 pub explain-spec : {M : Type 1} → statement M
 explain-spec =
