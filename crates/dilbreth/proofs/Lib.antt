@@ -1,4 +1,5 @@
 -- Laws that the proofs of src/ cite, and claims.
 mod ExportLaws
 mod DayLaws
+pub mod JobsLaws
 pub mod Claims

@@ -5,6 +5,7 @@ mod version;
 
 use answer_numbers::Numbers;
 use answer_numbers::numbers_of;
+use jobs::Job;
 use responses::Response;
 use series::Contracts;
 use series::terms_of;
@@ -14,6 +15,7 @@ use text_writing::Writing;
 ghost use lib.ListN.{length};
 ghost use Rattle.series.specs.Outputs.{lent};
 ghost use Rattle.text_rules.specs.Calls.{readInto, changeInto};
+ghost use Rattle.jobs.specs.Jobs.{JobsCall};
 ghost use Rattle.text_writing.specs.Answers.{writingOf};
 ghost use Rattle.dilbreth.specs.Exports.{listingBy, Allocates, Reads, writtenBy, printedInto, Hands, Writes};
 
@@ -51,6 +53,19 @@ pub extern "C" fn dilbreth_allocate(
         }
         Numbers::Refused(number) => number,
     }
+}
+
+// Many series in one call: allocates every job, or refuses before any.
+#[no_mangle]
+pub extern "C" fn dilbreth_allocate_jobs(
+    accounts: &[u32],
+    shorts: &[u32],
+    jobs: &mut [Job],
+    amounts: &mut [u32],
+) -> u32
+    ensures { λ r. ⌜ JobsCall (now (accounts .entry)) (now (shorts .entry)) r (lent (now (jobs .entry)) (now (jobs .exit))) (lent (now (amounts .entry)) (now (amounts .exit))) ⌝ }
+{
+    jobs::allocate_jobs(accounts, shorts, jobs, amounts)
 }
 
 // Reads the text of a series into three lists.

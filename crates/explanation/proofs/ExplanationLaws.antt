@@ -4,7 +4,6 @@ use mathlib.Core.Path.{_≡_, refl, ap, _∙_}
 use mathlib.Core.Bool.{true}
 use mathlib.Core.List.{List, [], _∷_, _++_}
 use native.Mathlib.Omega.{arith}
-use native.Mathlib.Decide.{ℕ-discrete}
 use borrow.Author.Tests.{leb-true, le-ltb, lt-ltb}
 use lib.Dec.{leb}
 use lib.ListN.{length, take, drop, getD, List·getD-eq-default}
@@ -40,20 +39,11 @@ above : (k n : ℕ) → Misses k (suc n) → k ≤ n
 above zero n m = omega arith
 above (suc k) n m = omega (arith, above k n (m .0), m .1)
 
--- nor 23 or 24
-pub no-refusal : (n : ℕ) → (Misses 20 n × (n ≡ 23 → ⊥)) × (n ≡ 24 → ⊥) → explanation n ≡ noRefusal
+-- a number that is none of 1 to 24 is no refusal's
+pub no-refusal : (n : ℕ) → Misses 24 n → explanation n ≡ noRefusal
 unfolding explanation refusals
 no-refusal zero m = refl
-no-refusal (suc n) m =
-    let past : 20 ≤ n = above 20 n (m .0 .0) in
-    elim (ℕ-discrete n 20) [
-      | yes e ↦ ap (λ k. getD refusals k noRefusal) e
-      | no u ↦
-          elim (ℕ-discrete n 21) [
-            | yes e ↦ ap (λ k. getD refusals k noRefusal) e
-            | no v ↦ let beyond : 24 ≤ n = omega (arith, m .0 .1, m .1) in List·getD-eq-default refusals noRefusal beyond
-          ]
-    ]
+no-refusal (suc n) m = List·getD-eq-default refusals noRefusal (above 24 n m)
 
 -- ---- what the calls promise
 

@@ -8,7 +8,7 @@ use Rattle.series.specs.Ascii.{ascii}
 unfoldable pub noRefusal : List ℕ
 noRefusal = ascii "no refusal has this number\n"
 
--- the lines of the refusals 1 to 24, of which 21 and 22 are none's
+-- the lines of the refusals 1 to 24
 unfoldable pub refusals : List (List ℕ)
 refusals =
     ascii "codes, accounts and numbers differ in length\n" ∷
@@ -31,8 +31,8 @@ refusals =
     ascii "more is exercised than the day's limit\n" ∷
     ascii "an account is 0 or stands earlier in the list\n" ∷
     ascii "a last number is 0 or not above the one before\n" ∷
-    noRefusal ∷
-    noRefusal ∷
+    ascii "there are more than 64 jobs\n" ∷
+    ascii "a stretch ends past the list or begins too early\n" ∷
     ascii "the increment is 0 or above 1,000 (W)\n" ∷
     ascii "the increment makes more than 1,000,000 blocks\n" ∷ []
 

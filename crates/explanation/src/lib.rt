@@ -46,6 +46,8 @@ pub fn explain(number: u32, line: &mut [u8]) -> usize
         18 => put(b"more is exercised than the day's limit\n", line),
         19 => put(b"an account is 0 or stands earlier in the list\n", line),
         20 => put(b"a last number is 0 or not above the one before\n", line),
+        21 => put(b"there are more than 64 jobs\n", line),
+        22 => put(b"a stretch ends past the list or begins too early\n", line),
         23 => put(b"the increment is 0 or above 1,000 (W)\n", line),
         24 => put(b"the increment makes more than 1,000,000 blocks\n", line),
         _ => put(b"no refusal has this number\n", line),

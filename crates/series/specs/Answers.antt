@@ -4,7 +4,7 @@ use mathlib.Core.Option.{Option, none, some}
 use Rattle.series.specs.Results.{Result, refused, value}
 use Rattle.series.specs.declared.Refusal.{Refusal}
 use Rattle.series.specs.declared.Refusal.the-variants.{LengthsDiffer, TooManyPositions, NoPositions, OutputTooShort, OutOfOrder, NoShorts, TotalTooLarge, NothingExercised, ExercisedAboveTotal, DrawOutOfRange, TextTooLong, NamesLine, Malformed, UnknownMethod, TooManyLines}
-use Rattle.series.specs.declared.Refusal.the-variants.{CountTooLarge, ClosingPurchasesAboveShort, ExercisedAboveLimit, AccountRepeated, LastNotAbove, IncrementOutOfRange, TooManyBlocks}
+use Rattle.series.specs.declared.Refusal.the-variants.{CountTooLarge, ClosingPurchasesAboveShort, ExercisedAboveLimit, AccountRepeated, LastNotAbove, TooManyJobs, StretchMisplaced, IncrementOutOfRange, TooManyBlocks}
 use Rattle.series.specs.declared.Method.{Method}
 use Rattle.series.specs.declared.Answer.{Answer}
 
@@ -30,6 +30,8 @@ numberOf ClosingPurchasesAboveShort = 17
 numberOf ExercisedAboveLimit = 18
 numberOf AccountRepeated = 19
 numberOf LastNotAbove = 20
+numberOf TooManyJobs = 21
+numberOf StretchMisplaced = 22
 numberOf IncrementOutOfRange = 23
 numberOf TooManyBlocks = 24
 

@@ -62,6 +62,8 @@ pub enum Refusal {
     ExercisedAboveLimit,
     AccountRepeated,
     LastNotAbove,
+    TooManyJobs,
+    StretchMisplaced,
     IncrementOutOfRange,
     TooManyBlocks,
 }
@@ -124,6 +126,8 @@ pub fn number(refusal: Refusal) -> u32
         Refusal::ExercisedAboveLimit => 18,
         Refusal::AccountRepeated => 19,
         Refusal::LastNotAbove => 20,
+        Refusal::TooManyJobs => 21,
+        Refusal::StretchMisplaced => 22,
         Refusal::IncrementOutOfRange => 23,
         Refusal::TooManyBlocks => 24,
     }

@@ -145,6 +145,18 @@ slice-aggregate-put-23 c = search needs
 put-requires-23 : tie.Need-put-requires-23
 put-requires-23 c κs = search needs
 
+slice-aggregate-put-24 : tie.Need-slice-aggregate-put-24
+slice-aggregate-put-24 c = search needs
+
+put-requires-24 : tie.Need-put-requires-24
+put-requires-24 c κs = search needs
+
+slice-aggregate-put-25 : tie.Need-slice-aggregate-put-25
+slice-aggregate-put-25 c = search needs
+
+put-requires-25 : tie.Need-put-requires-25
+put-requires-25 c κs = search needs
+
 same-length : tie.Need-same-length
 same-length c = search needs
 
@@ -290,21 +302,35 @@ same-length-21 c = search needs
 
 returns-21 : tie.Need-returns-21
 unfolding explanation refusals ascii
-returns-21 c = let m = c .before .before .before .before .before in let a = m .before .before .args in told (a .number) (a .line .now) (explanation 23) _ _ (ap explanation (m .match .keys21)) (c .before .before .put21 .ensures .0) (c .before .before .put21 .ensures .1)
+returns-21 c = let m = c .before .before .before .before .before in let a = m .before .before .args in told (a .number) (a .line .now) (explanation 21) _ _ (ap explanation (m .match .keys21)) (c .before .before .put21 .ensures .0) (c .before .before .put21 .ensures .1)
 
 same-length-22 : tie.Need-same-length-22
 same-length-22 c = search needs
 
 returns-22 : tie.Need-returns-22
 unfolding explanation refusals ascii
-returns-22 c = let m = c .before .before .before .before .before in let a = m .before .before .args in told (a .number) (a .line .now) (explanation 24) _ _ (ap explanation (m .match .keys22)) (c .before .before .put22 .ensures .0) (c .before .before .put22 .ensures .1)
+returns-22 c = let m = c .before .before .before .before .before in let a = m .before .before .args in told (a .number) (a .line .now) (explanation 22) _ _ (ap explanation (m .match .keys22)) (c .before .before .put22 .ensures .0) (c .before .before .put22 .ensures .1)
 
 same-length-23 : tie.Need-same-length-23
 same-length-23 c = search needs
 
 returns-23 : tie.Need-returns-23
+unfolding explanation refusals ascii
+returns-23 c = let m = c .before .before .before .before .before in let a = m .before .before .args in told (a .number) (a .line .now) (explanation 23) _ _ (ap explanation (m .match .keys23)) (c .before .before .put23 .ensures .0) (c .before .before .put23 .ensures .1)
+
+same-length-24 : tie.Need-same-length-24
+same-length-24 c = search needs
+
+returns-24 : tie.Need-returns-24
+unfolding explanation refusals ascii
+returns-24 c = let m = c .before .before .before .before .before in let a = m .before .before .args in told (a .number) (a .line .now) (explanation 24) _ _ (ap explanation (m .match .keys24)) (c .before .before .put24 .ensures .0) (c .before .before .put24 .ensures .1)
+
+same-length-25 : tie.Need-same-length-25
+same-length-25 c = search needs
+
+returns-25 : tie.Need-returns-25
 unfolding noRefusal ascii
-returns-23 c = let m = c .before .before .before .before .before in let a = m .before .before .args in told (a .number) (a .line .now) noRefusal _ _ (no-refusal _ (m .match .rest)) (c .before .before .put23 .ensures .0) (c .before .before .put23 .ensures .1)
+returns-25 c = let m = c .before .before .before .before .before in let a = m .before .before .args in told (a .number) (a .line .now) noRefusal _ _ (no-refusal _ (m .match .rest)) (c .before .before .put25 .ensures .0) (c .before .before .put25 .ensures .1)
 
 pub explain-spec : {M : Type 1} → statement M
 explain-spec =
@@ -356,6 +382,10 @@ explain-spec =
     put-requires-22
     slice-aggregate-put-23
     put-requires-23
+    slice-aggregate-put-24
+    put-requires-24
+    slice-aggregate-put-25
+    put-requires-25
     same-length
     returns
     same-length-2
@@ -401,4 +431,8 @@ explain-spec =
     same-length-22
     returns-22
     same-length-23
-    returns-23)
+    returns-23
+    same-length-24
+    returns-24
+    same-length-25
+    returns-25)
