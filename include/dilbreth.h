@@ -24,6 +24,8 @@
  *   18  more is exercised than the day's limit
  *   19  an account is 0 or stands earlier in the list
  *   20  a last number is 0 or not above the one before
+ *   21  there are more than 64 jobs
+ *   22  a stretch ends past the list or begins too early
  *   23  the increment is 0 or above 1,000 (W)
  *   24  the increment makes more than 1,000,000 blocks
  *
@@ -39,10 +41,11 @@
  * one time to the next, and each works only on what it is handed and on its own stack.
  * What one call writes, no other may read or write at the same time.
  *
- * 64 KB of stack that are free at the call are enough for any of them; dilbreth_respond
- * and dilbreth_allocate need most of that. rust/compare/tests/stack.rs runs each call on
- * a thread that has 64 KB in all, with lists and texts as long as may be, in both forms,
- * and under every method where amounts are worked out.
+ * 64 KB of stack that are free at the call are enough for any of them; dilbreth_respond,
+ * dilbreth_allocate and dilbreth_allocate_jobs need most of that.
+ * rust/compare/tests/stack.rs runs each call on a thread that has 64 KB in all, with lists
+ * and texts as long as may be, in both forms, and under every method where amounts are
+ * worked out.
  */
 #ifndef DILBRETH_H
 #define DILBRETH_H
@@ -58,7 +61,7 @@ extern "C" {
    call or a constant is new; 1 was the first delivery's. The same number stands in
    dilbreth.pas, rust/dilbreth/src/version.rs, and crates/dilbreth/src/version.rt and
    specs/Version.antt. */
-#define DILBRETH_VERSION 8
+#define DILBRETH_VERSION 9
 
 /* The number that the archive was built with. */
 uint32_t dilbreth_version(void);
@@ -154,6 +157,76 @@ uint32_t dilbreth_allocate(uint8_t method, uint32_t exercised, uint32_t draw, ui
                            const uint32_t *numbers, size_t numbers_len,
                            uint32_t *amounts, size_t amounts_len,
                            uint32_t *total, uint32_t *further);
+
+/* The most jobs of one call. */
+#define DILBRETH_MOST_JOBS 64
+
+/* What a job is answered. */
+typedef struct {
+    uint32_t refusal; /* 0, or the number of the refusal that the job met */
+    uint32_t total;   /* T */
+    uint32_t further; /* the further number of dilbreth_allocate */
+} dilbreth_job_answer;
+
+/* One series of a broker's book: its stretch of the lists, and what dilbreth_allocate takes
+   for it. */
+typedef struct {
+    uint32_t first;     /* its first position in the lists, counted from 0 */
+    uint32_t positions; /* its number of positions */
+    uint8_t method;     /* 'W', 'P', 'L' or 'R' */
+    uint32_t exercised; /* S */
+    uint32_t draw;
+    uint32_t increment; /* 0 does not stand for 25 */
+    dilbreth_job_answer answer;
+} dilbreth_job;
+
+/*
+ * Assigns many series in one call. All positions stand in one pair of lists, and each job
+ * has a stretch of them. The stretches stand in the order of the jobs; they may touch, and
+ * positions between them belong to no job. Each job is answered as dilbreth_allocate
+ * answers it on lists and an output of its own, in the form of shorts and with the accounts
+ * as codes. So accounts rise and T is at most 10,000,000 within a job; an account may stand
+ * in several jobs.
+ *
+ * Refuses, before any job, 1, 2 for more than 4,096 positions in all, 4, 21, and then, for
+ * each job in turn, 22, where first plus positions passes the lists' length or the stretch
+ * begins before the one before it ended. Records and amounts are then kept.
+ * Else it answers 0, and each job has its answer in its record. Look there: a refused job
+ * is no refusal of the call, and the jobs after it go on.
+ *
+ * accounts      the account of each position
+ * accounts_len  the length of accounts, 0 to 4,096
+ * shorts        the short contracts of each position
+ * shorts_len    the length of shorts, equal to accounts_len
+ * jobs          the records. An allocated job has refusal 0, T and the further number
+ *               written to its answer; a refused one has its number written to refusal, and
+ *               keeps total and further. Nothing else of a record is written. 14 comes
+ *               before a job's other refusals, and a job of 0 positions meets 3
+ * jobs_len      the length of jobs, at most 64; with 0 nothing is written
+ * amounts       receives the contracts assigned to each position, at its place in the lists.
+ *               A refused job's stretch is kept, and so is every element that is in no
+ *               stretch
+ * amounts_len   the length of amounts, at least accounts_len
+ *
+ * A book of three series, the last of which has fewer contracts than are exercised:
+ *
+ *   const uint32_t accounts[10] = {1, 2, 3, 1, 2, 3, 4, 5, 2, 7};
+ *   const uint32_t shorts[10] = {60, 200, 95, 5, 8, 2, 10, 11, 3, 1};
+ *   dilbreth_job jobs[3] = {
+ *       {0, 3, DILBRETH_WHEEL, 175, 1, DILBRETH_DEFAULT_INCREMENT, {0, 0, 0}},
+ *       {3, 5, DILBRETH_LOTTERY, 13, 4855, DILBRETH_DEFAULT_INCREMENT, {0, 0, 0}},
+ *       {8, 2, DILBRETH_PRO_RATA, 5, 0, DILBRETH_DEFAULT_INCREMENT, {0, 0, 0}}};
+ *   uint32_t amounts[10] = {0};
+ *
+ *   dilbreth_allocate_jobs(accounts, 10, shorts, 10, jobs, 3, amounts, 10)
+ *
+ * answers 0. The jobs' answers are then {0, 355, 7}, {0, 36, 18} and {9, 0, 0}, and amounts
+ * is 35, 97, 43, then 0, 0, 0, 8, 5, then 0, 0 as before the call.
+ */
+uint32_t dilbreth_allocate_jobs(const uint32_t *accounts, size_t accounts_len,
+                                const uint32_t *shorts, size_t shorts_len,
+                                dilbreth_job *jobs, size_t jobs_len,
+                                uint32_t *amounts, size_t amounts_len);
 
 /*
  * Reads the text of a series. Refuses 11 to 15 as the text's lines meet them,

@@ -13,8 +13,8 @@ unit dilbreth;
 interface
 
 const
-  { dilbreth_version_8 below has the same number, and dilbreth.h says where else it stands. }
-  DILBRETH_VERSION = 8;
+  { dilbreth_version_9 below has the same number, and dilbreth.h says where else it stands. }
+  DILBRETH_VERSION = 9;
   DILBRETH_WHEEL = Ord('W');
   DILBRETH_PRO_RATA = Ord('P');
   DILBRETH_LOTTERY = Ord('L');
@@ -22,9 +22,27 @@ const
   DILBRETH_SHORTS = 0;
   DILBRETH_LAST_NUMBERS = 1;
   DILBRETH_DEFAULT_INCREMENT = 25;
+  DILBRETH_MOST_JOBS = 64;
   DILBRETH_ORDINARY_DAY = 0;
   DILBRETH_FINAL_DAY = 1;
   DILBRETH_LONGEST_EXPLANATION = 50;
+
+{$push}
+{ As C lays them out. }
+{$packrecords c}
+type
+  dilbreth_job_answer = record
+    refusal, total, further: LongWord;
+  end;
+
+  { A series of a book: first counts from 0, method is a letter's number. }
+  dilbreth_job = record
+    first, positions: LongWord;
+    method: Byte;
+    exercised, draw, increment: LongWord;
+    answer: dilbreth_job_answer;
+  end;
+{$pop}
 
 { dilbreth_version of C, a name that the constant has here. }
 function dilbreth_archive_version: LongWord; cdecl; external name 'dilbreth_version';
@@ -35,6 +53,12 @@ function dilbreth_allocate(method: Byte; exercised, draw, increment: LongWord; f
   const numbers: array of LongWord; numbers_len: SizeUInt;
   var amounts: array of LongWord; amounts_len: SizeUInt;
   var total, further: LongWord): LongWord; cdecl; external;
+
+function dilbreth_allocate_jobs(
+  const accounts: array of LongWord; accounts_len: SizeUInt;
+  const shorts: array of LongWord; shorts_len: SizeUInt;
+  var jobs: array of dilbreth_job; jobs_len: SizeUInt;
+  var amounts: array of LongWord; amounts_len: SizeUInt): LongWord; cdecl; external;
 
 function dilbreth_read(text: PByte; text_len: SizeUInt;
   var method: Byte; var exercised, draw, increment: LongWord; var form: LongWord;
@@ -76,9 +100,9 @@ function dilbreth_explain(number: LongWord;
 implementation
 
 { Only an archive of this number has it: no other one links. }
-function dilbreth_version_8: LongWord; cdecl; external;
+function dilbreth_version_9: LongWord; cdecl; external;
 
 initialization
-  dilbreth_version_8;
+  dilbreth_version_9;
 
 end.

@@ -1,7 +1,8 @@
 /* The archive and its header, from C: case M, starred series in both forms, series that need no draw, leading zeros,
-   codes, the exhibit of the remainder draw, last numbers and the change, other increments, the circular's days, a
-   refusal of each call, the words for a refusal. */
+   codes, the exhibit of the remainder draw, last numbers and the change, other increments, a broker's book, the
+   circular's days, a refusal of each call, the words for a refusal. */
 #include <inttypes.h>
+#include <stddef.h>
 #include <stdio.h>
 #include <string.h>
 
@@ -341,6 +342,84 @@ static void increments(void)
             total == 1000155 && further == 1000000);
 }
 
+/* The numbers that tests/pascal and rust/compare/tests/jobs.rs have too. */
+static void layout_of_a_job(void)
+{
+    see("the layout of a job",
+        sizeof(dilbreth_job) == 36 && offsetof(dilbreth_job, first) == 0 && offsetof(dilbreth_job, positions) == 4 &&
+            offsetof(dilbreth_job, method) == 8 && offsetof(dilbreth_job, exercised) == 12 &&
+            offsetof(dilbreth_job, draw) == 16 && offsetof(dilbreth_job, increment) == 20 &&
+            offsetof(dilbreth_job, answer) == 24);
+    see("the layout of a job's answer",
+        sizeof(dilbreth_job_answer) == 12 && offsetof(dilbreth_job_answer, refusal) == 0 &&
+            offsetof(dilbreth_job_answer, total) == 4 && offsetof(dilbreth_job_answer, further) == 8);
+}
+
+/* Whether a record is the job with this answer. */
+static int answered(const dilbreth_job *record, const dilbreth_job *job, uint32_t refusal, uint32_t total,
+                    uint32_t further)
+{
+    return record->first == job->first && record->positions == job->positions && record->method == job->method &&
+           record->exercised == job->exercised && record->draw == job->draw && record->increment == job->increment &&
+           record->answer.refusal == refusal && record->answer.total == total && record->answer.further == further;
+}
+
+/* The book that the header shows, with a position of no job and a job by tens. */
+static const uint32_t BOOK_ACCOUNTS[14] = {1, 2, 3, 1, 2, 3, 4, 5, 2, 7, 0, 6, 7, 8};
+static const uint32_t BOOK_SHORTS[14] = {60, 200, 95, 5, 8, 2, 10, 11, 3, 1, 0, 60, 200, 95};
+static const dilbreth_job BOOK[4] = {
+    {0, 3, DILBRETH_WHEEL, 175, 1, DILBRETH_DEFAULT_INCREMENT, {77, 78, 79}},
+    {3, 5, DILBRETH_LOTTERY, 13, 4855, DILBRETH_DEFAULT_INCREMENT, {77, 78, 79}},
+    {8, 2, DILBRETH_PRO_RATA, 5, 0, DILBRETH_DEFAULT_INCREMENT, {77, 78, 79}},
+    {11, 3, DILBRETH_WHEEL, 65, 340, 10, {77, 78, 79}}};
+
+static void book(void)
+{
+    static const uint32_t expected[15] = {35, 97, 43, 0, 0, 0, 8, 5, 9, 9, 9, 10, 40, 15, 9};
+    uint32_t amounts[15];
+    dilbreth_job jobs[4];
+    size_t i;
+
+    memcpy(jobs, BOOK, sizeof jobs);
+    for (i = 0; i < 15; i++)
+        amounts[i] = 9;
+    see("a book", dilbreth_allocate_jobs(BOOK_ACCOUNTS, 14, BOOK_SHORTS, 14, jobs, 4, amounts, 15) == 0 &&
+                      answered(&jobs[0], &BOOK[0], 0, 355, 7) && answered(&jobs[1], &BOOK[1], 0, 36, 18) &&
+                      answered(&jobs[3], &BOOK[3], 0, 355, 7) && memcmp(amounts, expected, sizeof amounts) == 0);
+    see("a refused job of a book keeps T and the further number", answered(&jobs[2], &BOOK[2], 9, 78, 79));
+    jobs[0].method = 'X';
+    jobs[0].positions = 0;
+    see("a job refuses 14 before 3, and the next goes on",
+        dilbreth_allocate_jobs(BOOK_ACCOUNTS, 14, BOOK_SHORTS, 14, jobs, 2, amounts, 15) == 0 &&
+            jobs[0].answer.refusal == 14 && jobs[0].answer.total == 355 && jobs[1].answer.refusal == 0);
+}
+
+static void refused_books(void)
+{
+    dilbreth_job jobs[4], many[DILBRETH_MOST_JOBS + 1];
+    uint32_t amounts[15], before[15];
+    size_t i;
+    int kept;
+
+    memcpy(jobs, BOOK, sizeof jobs);
+    for (i = 0; i < sizeof many / sizeof many[0]; i++)
+        many[i] = BOOK[0];
+    for (i = 0; i < 15; i++)
+        amounts[i] = before[i] = 9;
+    see("jobs refuse 1", dilbreth_allocate_jobs(BOOK_ACCOUNTS, 14, BOOK_SHORTS, 13, jobs, 4, amounts, 15) == 1);
+    see("jobs refuse 4", dilbreth_allocate_jobs(BOOK_ACCOUNTS, 14, BOOK_SHORTS, 14, jobs, 4, amounts, 13) == 4);
+    see("jobs refuse 21", dilbreth_allocate_jobs(BOOK_ACCOUNTS, 14, BOOK_SHORTS, 14, many, 65, amounts, 15) == 21);
+    see("jobs refuse 22 past the list",
+        dilbreth_allocate_jobs(BOOK_ACCOUNTS, 13, BOOK_SHORTS, 13, jobs, 4, amounts, 15) == 22);
+    see("jobs refuse 22 for a stretch that begins too early",
+        dilbreth_allocate_jobs(BOOK_ACCOUNTS, 14, BOOK_SHORTS, 14, many, 64, amounts, 15) == 22);
+    see("no jobs", dilbreth_allocate_jobs(BOOK_ACCOUNTS, 14, BOOK_SHORTS, 14, jobs, 0, amounts, 15) == 0);
+    kept = answered(&many[0], &BOOK[0], 77, 78, 79) && memcmp(amounts, before, sizeof amounts) == 0;
+    for (i = 0; i < 4; i++)
+        kept = kept && answered(&jobs[i], &BOOK[i], 77, 78, 79);
+    see("they keep records and amounts", kept);
+}
+
 static void refusals(void)
 {
     static const uint32_t shorts[5] = {5, 8, 2, 10, 11};
@@ -454,6 +533,8 @@ static void words(void)
     static const char NINE[] = "more is exercised than the positions hold\n", NONE[] = "no refusal has this number\n";
     static const char FOURTEEN[] = "the method is not W, P, L or R\n";
     static const char TWENTY[] = "a last number is 0 or not above the one before\n";
+    static const char TWENTY_ONE[] = "there are more than 64 jobs\n";
+    static const char TWENTY_TWO[] = "a stretch ends past the list or begins too early\n";
     static const char TWENTY_THREE[] = "the increment is 0 or above 1,000 (W)\n";
     static const char TWENTY_FOUR[] = "the increment makes more than 1,000,000 blocks\n";
     const size_t length = sizeof NINE - 1;
@@ -471,12 +552,16 @@ static void words(void)
                                 memcmp(line, FOURTEEN, sizeof FOURTEEN - 1) == 0);
     see("the words for 20", dilbreth_explain(20, line, sizeof line) == sizeof TWENTY - 1 &&
                                 memcmp(line, TWENTY, sizeof TWENTY - 1) == 0);
-    see("no words for 21", dilbreth_explain(21, line, sizeof line) == sizeof NONE - 1 &&
-                               memcmp(line, NONE, sizeof NONE - 1) == 0);
+    see("the words for 21", dilbreth_explain(21, line, sizeof line) == sizeof TWENTY_ONE - 1 &&
+                                memcmp(line, TWENTY_ONE, sizeof TWENTY_ONE - 1) == 0);
+    see("the words for 22", dilbreth_explain(22, line, sizeof line) == sizeof TWENTY_TWO - 1 &&
+                                memcmp(line, TWENTY_TWO, sizeof TWENTY_TWO - 1) == 0);
     see("the words for 23", dilbreth_explain(23, line, sizeof line) == sizeof TWENTY_THREE - 1 &&
                                 memcmp(line, TWENTY_THREE, sizeof TWENTY_THREE - 1) == 0);
     see("the words for 24", dilbreth_explain(24, line, sizeof line) == sizeof TWENTY_FOUR - 1 &&
                                 memcmp(line, TWENTY_FOUR, sizeof TWENTY_FOUR - 1) == 0);
+    see("no words for 25", dilbreth_explain(25, line, sizeof line) == sizeof NONE - 1 &&
+                               memcmp(line, NONE, sizeof NONE - 1) == 0);
     see("the longest line", dilbreth_explain(10, line, sizeof line) == DILBRETH_LONGEST_EXPLANATION);
 }
 
@@ -493,6 +578,9 @@ int main(void)
     exhibit();
     last_numbers();
     increments();
+    layout_of_a_job();
+    book();
+    refused_books();
     refusals();
     for (i = 0; i < sizeof INVESTORS / sizeof INVESTORS[0]; i++)
         investor(&INVESTORS[i]);

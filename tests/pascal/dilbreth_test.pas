@@ -1,5 +1,5 @@
 { The unit and the archive, from Pascal: case M through each call, series that need no draw, leading zeros, codes, the
-  remainder draw, last numbers and the change, other increments, the circular's days, refusals. }
+  remainder draw, last numbers and the change, other increments, a broker's book, the circular's days, refusals. }
 program dilbreth_test;
 
 {$mode objfpc}
@@ -27,6 +27,9 @@ const
   AMOUNTS_OF_TENS: array[0..5] of LongWord = (10, 40, 15, 999, 999, 999);
   AMOUNTS_OF_A: array[0..5] of LongWord = (35, 97, 43, 999, 999, 999);
   AMOUNTS_OF_M: array[0..5] of LongWord = (0, 0, 0, 8, 5, 999);
+  BOOK_ACCOUNTS: array[0..10] of LongWord = (1, 2, 1, 2, 3, 4, 5, 0, 6, 7, 8);
+  BOOK_SHORTS: array[0..10] of LongWord = (3, 1, 5, 8, 2, 10, 11, 0, 60, 200, 95);
+  AMOUNTS_OF_BOOK: array[0..11] of LongWord = (999, 999, 0, 0, 0, 8, 5, 999, 10, 40, 15, 999);
 
 var
   wrong: Integer = 0;
@@ -36,6 +39,9 @@ var
   exercised, draw, increment, form, total, further: LongWord;
   positions, written: SizeUInt;
   limit, long_after, short_after: LongWord;
+  jobs: array[0..2] of dilbreth_job;
+  many: array[0..DILBRETH_MOST_JOBS] of dilbreth_job;
+  book_amounts: array[0..11] of LongWord;
 
 procedure See(const what: string; holds: Boolean);
 begin
@@ -80,6 +86,81 @@ begin
   further := 999;
   Undrawn := dilbreth_allocate(by, s, 0, DILBRETH_DEFAULT_INCREMENT, DILBRETH_SHORTS, codes, count, accounts, count,
     numbers, count, amounts, 6, total, further);
+end;
+
+{ A job that is not yet answered. }
+function Job(first, count: LongWord; by: Byte; s, d, i: LongWord): dilbreth_job;
+begin
+  Job.first := first;
+  Job.positions := count;
+  Job.method := by;
+  Job.exercised := s;
+  Job.draw := d;
+  Job.increment := i;
+  Job.answer.refusal := 999;
+  Job.answer.total := 998;
+  Job.answer.further := 997;
+end;
+
+{ Whether a record is the job, but for this answer. }
+function Answered(const found, given: dilbreth_job; refusal, t, f: LongWord): Boolean;
+begin
+  Answered := (found.first = given.first) and (found.positions = given.positions) and (found.method = given.method)
+    and (found.exercised = given.exercised) and (found.draw = given.draw) and (found.increment = given.increment)
+    and (found.answer.refusal = refusal) and (found.answer.total = t) and (found.answer.further = f);
+end;
+
+{ Allocates a book of three jobs, the first of which has fewer contracts than are exercised; answers 0 or the number of
+  the refusal. }
+function Book(length: SizeUInt): LongWord;
+begin
+  jobs[0] := Job(0, 2, DILBRETH_PRO_RATA, 5, 0, 25);
+  jobs[1] := Job(2, 5, DILBRETH_LOTTERY, 13, 4855, 25);
+  jobs[2] := Job(8, 3, DILBRETH_WHEEL, 65, 340, 10);
+  FillDWord(book_amounts, 12, 999);
+  Book := dilbreth_allocate_jobs(BOOK_ACCOUNTS, length, BOOK_SHORTS, length, jobs, 3, book_amounts, 12);
+end;
+
+{ The numbers that tests/c and rust/compare/tests/jobs.rs have too. }
+procedure SeeLayout;
+var
+  at: PByte;
+begin
+  at := PByte(@jobs[0]);
+  See('the layout of a job', (SizeOf(dilbreth_job) = 36) and (PByte(@jobs[0].first) - at = 0)
+    and (PByte(@jobs[0].positions) - at = 4) and (PByte(@jobs[0].method) - at = 8)
+    and (PByte(@jobs[0].exercised) - at = 12) and (PByte(@jobs[0].draw) - at = 16)
+    and (PByte(@jobs[0].increment) - at = 20) and (PByte(@jobs[0].answer) - at = 24)
+    and (PByte(@jobs[1]) - at = 36));
+  at := PByte(@jobs[0].answer);
+  See('the layout of a job''s answer', (SizeOf(dilbreth_job_answer) = 12) and (PByte(@jobs[0].answer.refusal) - at = 0)
+    and (PByte(@jobs[0].answer.total) - at = 4) and (PByte(@jobs[0].answer.further) - at = 8));
+end;
+
+{ The book, one of its jobs alone, and refusals before any job. }
+procedure SeeBook;
+var
+  at: Integer;
+begin
+  See('a book', (Book(11) = 0) and (CompareDWord(book_amounts, AMOUNTS_OF_BOOK, 12) = 0)
+    and Answered(jobs[0], Job(0, 2, DILBRETH_PRO_RATA, 5, 0, 25), 9, 998, 997)
+    and Answered(jobs[1], Job(2, 5, DILBRETH_LOTTERY, 13, 4855, 25), 0, 36, 18)
+    and Answered(jobs[2], Job(8, 3, DILBRETH_WHEEL, 65, 340, 10), 0, 355, 7));
+  See('jobs refuse 22 past the list', (Book(10) = 22) and (jobs[1].answer.refusal = 999)
+    and (jobs[2].answer.refusal = 999) and (book_amounts[0] = 999)
+    and (CompareDWord(book_amounts[0], book_amounts[1], 11) = 0));
+  See('jobs from a part of the records', (dilbreth_allocate_jobs(BOOK_ACCOUNTS, 7, BOOK_SHORTS, 7, jobs[1], 1,
+    book_amounts, 7) = 0) and (jobs[1].answer.total = 36) and (jobs[2].answer.refusal = 999)
+    and (CompareDWord(book_amounts[2], AMOUNTS_OF_M, 5) = 0) and (book_amounts[7] = 999));
+  See('jobs refuse 1', dilbreth_allocate_jobs(BOOK_ACCOUNTS, 11, BOOK_SHORTS, 10, jobs, 3, book_amounts, 12) = 1);
+  See('jobs refuse 4', dilbreth_allocate_jobs(BOOK_ACCOUNTS, 11, BOOK_SHORTS, 11, jobs, 3, book_amounts, 10) = 4);
+  for at := 0 to DILBRETH_MOST_JOBS do
+    many[at] := Job(0, 0, Ord('X'), 0, 0, 0);
+  See('jobs refuse 21', (dilbreth_allocate_jobs(BOOK_ACCOUNTS, 11, BOOK_SHORTS, 11, many, DILBRETH_MOST_JOBS + 1,
+    book_amounts, 12) = 21) and (many[0].answer.refusal = 999));
+  See('64 jobs of no method', (dilbreth_allocate_jobs(BOOK_ACCOUNTS, 11, BOOK_SHORTS, 11, many, DILBRETH_MOST_JOBS,
+    book_amounts, 12) = 0) and (many[0].answer.refusal = 14) and (many[63].answer.refusal = 14)
+    and (many[63].answer.total = 998) and (many[64].answer.refusal = 999));
 end;
 
 { An investor's day; answers 0 or the number of the refusal. }
@@ -228,6 +309,8 @@ begin
   accounts[2] := 500;
   See('allocate refuses 19', dilbreth_allocate(method, exercised, draw, increment, form, codes, 3, accounts, 3,
     numbers, 3, amounts, 6, total, further) = 19);
+  SeeLayout;
+  SeeBook;
   See('investor X', (Investor(DILBRETH_ORDINARY_DAY, 15, 0, 20, 0, 0, 10, 35) = 0) and After(35, 0, 10));
   See('investor X, final day', (Investor(DILBRETH_FINAL_DAY, 15, 0, 20, 0, 0, 10, 25) = 0) and After(25, 0, 0));
   See('investor Y', (Investor(DILBRETH_ORDINARY_DAY, 0, 20, 20, 0, 0, 0, 0) = 0) and After(20, 20, 20));
@@ -251,6 +334,10 @@ begin
   See('market-maker refuses 16', (MarketMaker(DILBRETH_ORDINARY_DAY, 0, 0, 0, 10000001) = 16) and (limit = 999));
   See('explain', First(dilbreth_explain(9, PByte(bytes), Length(bytes)))
     = 'more is exercised than the positions hold'#10);
+  See('explain 21', First(dilbreth_explain(21, PByte(bytes), Length(bytes)))
+    = 'there are more than 64 jobs'#10);
+  See('explain 22', First(dilbreth_explain(22, PByte(bytes), Length(bytes)))
+    = 'a stretch ends past the list or begins too early'#10);
   See('explain 23', First(dilbreth_explain(23, PByte(bytes), Length(bytes)))
     = 'the increment is 0 or above 1,000 (W)'#10);
   WriteLn('Pascal: ', wrong, ' wrong');

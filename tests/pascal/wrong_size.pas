@@ -12,10 +12,12 @@ type
   TNumber = LongWord;
   TLength = SizeUInt;
   TLetter = Byte;
+  TJob = dilbreth_job;
 {$else}
   TNumber = Word;
   TLength = LongWord;
   TLetter = LongWord;
+  TJob = dilbreth_job_answer;
 {$endif}
 
 var
@@ -28,6 +30,8 @@ var
   other_number: TNumber;
   other_len: TLength;
   bytes: PByte;
+  jobs: array[0..5] of dilbreth_job;
+  other_jobs: array[0..5] of TJob;
 
 begin
   bytes := PByte(@list);
@@ -37,6 +41,10 @@ begin
   dilbreth_allocate(80, 0, 0, 0, 0, list, 0, list, 0, list, 0, other_list, 0, number, number); { refused }
   dilbreth_allocate(80, 0, 0, 0, 0, list, 0, list, 0, list, 0, list, 0, other_number, number); { refused }
   dilbreth_allocate(80, 0, 0, 0, 0, list, 0, list, 0, list, 0, list, 0, number, other_number); { refused }
+  dilbreth_allocate_jobs(other_list, 0, list, 0, jobs, 0, list, 0); { refused }
+  dilbreth_allocate_jobs(list, 0, other_list, 0, jobs, 0, list, 0); { refused }
+  dilbreth_allocate_jobs(list, 0, list, 0, other_jobs, 0, list, 0); { refused }
+  dilbreth_allocate_jobs(list, 0, list, 0, jobs, 0, other_list, 0); { refused }
   dilbreth_read(bytes, 0, other_letter, number, number, number, number, list, 0, list, 0, list, 0, len); { refused }
   dilbreth_read(bytes, 0, letter, other_number, number, number, number, list, 0, list, 0, list, 0, len); { refused }
   dilbreth_read(bytes, 0, letter, number, other_number, number, number, list, 0, list, 0, list, 0, len); { refused }

@@ -4,12 +4,15 @@ use std::hint::black_box;
 use std::process::Stdio;
 use std::time::{Duration, Instant};
 
+use compare::books::Book;
 use compare::make::{self, Columns, Field, Series};
 use compare::program::{Program, TextFile, PROGRAMS};
 use compare::random::Random;
-use compare::{days, library_form, plain, Form, List, Terms, DEFAULT_INCREMENT, FORMS};
+use compare::{days, library_form, library_job, plain, Form, List, Terms, DEFAULT_INCREMENT, FORMS};
 use dilbreth::calls;
 use reference::day::{Investor, MarketMaker};
+use reference::jobs::MOST_JOBS;
+use reference::MOST_POSITIONS;
 
 // Nanoseconds of one call of each: the median of samples that each last long enough to be measured. The samples are taken in turn, so that a
 // burst of other work on the machine weighs on each alike.
@@ -40,6 +43,28 @@ fn medians<const N: usize>(mut calls: [&mut dyn FnMut(); N]) -> [f64; N] {
 
 fn median(mut call: impl FnMut()) -> f64 {
     medians([&mut call])[0]
+}
+
+// Nanoseconds of all `count` calls of each: the sum over the medians of several passes, the passes taken in turn. Other
+// work on the machine then weighs on few of the calls.
+fn medians_of_passes<const N: usize>(count: usize, mut calls: [&mut dyn FnMut(usize); N]) -> [f64; N] {
+    let mut samples = [(); N].map(|_| vec![Vec::new(); count]);
+    for _ in 0..9 {
+        for (call, samples) in calls.iter_mut().zip(&mut samples) {
+            for (at, of_one) in samples.iter_mut().enumerate() {
+                let start = Instant::now();
+                call(at);
+                of_one.push(start.elapsed().as_nanos());
+            }
+        }
+    }
+    samples.map(|of_all| {
+        let medians = of_all.into_iter().map(|mut of_one| {
+            of_one.sort();
+            of_one[of_one.len() / 2]
+        });
+        medians.sum::<u128>() as f64
+    })
 }
 
 fn time(nanoseconds: f64) -> String {
@@ -296,6 +321,107 @@ fn distinct_accounts() {
             }
         }
     }
+}
+
+// 64 series of 64 positions with T = 10,000, 3/7 of it exercised, under the methods in turn.
+fn full_book(methods: &[u8]) -> Book {
+    let mut book = Book::default();
+    let made = list(64, 10_000);
+    for at in 0..MOST_JOBS {
+        let draw = 100 * at as u32 + 1;
+        book.add(&made.accounts, &made.numbers, Terms::new(methods[at % methods.len()], 4_285, draw));
+    }
+    book
+}
+
+// A series of a night: a few positions, a few tens or a few hundred, with 1 to 200 contracts each.
+fn night_series(random: &mut Random) -> (Series, Terms) {
+    let most = random.pick(&[12, 60, 300]);
+    let positions = random.between(3, most) as usize;
+    let shorts = (0..positions).map(|_| random.spread(200) as u32).collect();
+    let series = Series::by_account(make::rising(random, positions), shorts);
+    let total = series.total();
+    let method = random.pick(&make::METHODS);
+    let exercised = if random.one_in(16) { total } else { random.between(1, total) };
+    let draw = random.between(1, if method == b'W' { total } else { 10_000 });
+    (series, Terms::new(method, exercised as u32, draw as u32))
+}
+
+// The series in books, each as full as may be.
+fn night(series: usize) -> Vec<Book> {
+    let mut random = Random::new(0xBE7C_8000);
+    let mut books = vec![Book::default()];
+    for _ in 0..series {
+        let (list, terms) = night_series(&mut random);
+        let last = &books[books.len() - 1];
+        if last.jobs.len() == MOST_JOBS || last.len() + list.numbers.len() > MOST_POSITIONS {
+            books.push(Book::default());
+        }
+        books.last_mut().expect("a book").add(&list.accounts, &list.numbers, terms);
+    }
+    books
+}
+
+// Nanoseconds of the books, a call for each, and of a call for each of their series on its part of the same lists.
+fn time_books(books: &[Book]) -> [f64; 2] {
+    let record = |book: &Book| book.jobs.iter().map(|job| library_job(*job)).collect();
+    let mut records: Vec<Vec<calls::Job>> = books.iter().map(record).collect();
+    let [mut amounts, mut others] = [(); 2].map(|_| vec![0; MOST_POSITIONS]);
+    let mut together = |at: usize| {
+        let Book { accounts, shorts, .. } = black_box(&books[at]);
+        assert_eq!(black_box(calls::allocate_jobs(accounts, shorts, &mut records[at], &mut amounts)), 0);
+        black_box(&amounts);
+    };
+    let mut alone = |at: usize| {
+        let Book { accounts, shorts, jobs, .. } = black_box(&books[at]);
+        for job in jobs {
+            let part = job.stretch();
+            library(job.terms, List::by_account(&accounts[part.clone()], &shorts[part.clone()]), &mut others[part]);
+        }
+    };
+    let found = match books {
+        [_] => medians([&mut || together(0), &mut || alone(0)]),
+        _ => medians_of_passes(books.len(), [&mut together, &mut alone]),
+    };
+    assert!(records.iter().flatten().all(|record| record.answer.refusal == 0));
+    found
+}
+
+fn books_row(name: &str, books: &[Book]) {
+    let [together, alone] = time_books(books);
+    let series: usize = books.iter().map(|book| book.jobs.len()).sum();
+    let positions: usize = books.iter().map(Book::len).sum();
+    println!(
+        "{name:<10}{:>8}{series:>9}{positions:>11}{:>12}{:>12}{:>10.2}{:>17.0}",
+        books.len(),
+        time(together),
+        time(alone),
+        together / alone,
+        series as f64 / together * 1e9
+    );
+}
+
+fn many_series() {
+    println!();
+    println!(
+        "Many series: books of up to 64 series and 4,096 positions, a call for each book ('together'), against a call"
+    );
+    println!(
+        "for each series on its part of the same lists ('alone'). The first rows are one book of 64 series, each with"
+    );
+    println!(
+        "64 positions and T = 10,000. 'night': 100,000 series of 3 to 300 positions under all four methods. One core;"
+    );
+    println!("lists and records are made before, no output is cleared. Of the night each book has its median of nine passes.");
+    println!(
+        "{:<10}{:>8}{:>9}{:>11}{:>12}{:>12}{:>10}{:>17}",
+        "methods", "books", "series", "positions", "together", "alone", "to alone", "series a second"
+    );
+    for method in make::METHODS {
+        books_row(&char::from(method).to_string(), &[full_book(&[method])]);
+    }
+    books_row("mixed", &[full_book(&make::METHODS)]);
+    books_row("night", &night(100_000));
 }
 
 fn rate(bytes: usize, nanoseconds: f64) -> String {
@@ -582,6 +708,7 @@ fn main() {
     }
     allocations();
     distinct_accounts();
+    many_series();
     texts();
     changes();
     whole_days();

@@ -3,8 +3,10 @@
 use std::fmt::Write;
 
 use reference::day::{Investor, MarketMaker};
+use reference::jobs::Job;
 use reference::{Form, List, Terms};
 
+use crate::books::{self, Book};
 use crate::make::Series;
 use crate::program::{Feed, Program};
 
@@ -43,6 +45,21 @@ fn lists(List { form, codes, accounts, numbers }: List) -> String {
 
 pub fn allocate(terms: Terms, list: List, room: usize) -> String {
     format!("allocate {} {} {room}", shown(terms), lists(list))
+}
+
+// Each job as first, positions and terms with `:` between them.
+fn jobs(jobs: &[Job]) -> String {
+    if jobs.is_empty() {
+        return "-".to_string();
+    }
+    let job = |job: &Job| format!("{} {} {}", job.first, job.positions, shown(job.terms)).replace(' ', ":");
+    jobs.iter().map(job).collect::<Vec<_>>().join(",")
+}
+
+/// The answers that the records hold before the call are not shown.
+pub fn allocate_jobs(book: &Book) -> String {
+    let Book { accounts, shorts, jobs: of_book, room } = book;
+    format!("allocate_jobs {} {} {} {room}", list(accounts), list(shorts), jobs(of_book))
 }
 
 pub fn read(text: &[u8], rooms: [usize; 3]) -> String {
@@ -109,6 +126,19 @@ fn to_list(word: &str) -> Vec<u32> {
     word.split(',').map(|n| n.parse().expect("a number")).collect()
 }
 
+fn to_jobs(word: &str) -> Vec<Job> {
+    if word == "-" {
+        return Vec::new();
+    }
+    let job = |job: &str| {
+        let parts: Vec<&str> = job.split(':').collect();
+        let [first, positions, exercised, draw, increment] =
+            [0, 1, 3, 4, 5].map(|i| parts[i].parse().expect("a number"));
+        books::job(first, positions, Terms { method: to_method(parts[2]), exercised, draw, increment })
+    };
+    word.split(',').map(job).collect()
+}
+
 fn to_counts<const N: usize>(word: &str) -> [u32; N] {
     to_list(word).try_into().expect("the counts of a day")
 }
@@ -133,6 +163,11 @@ pub fn again(line: &str) -> Result<bool, String> {
     };
     match words[0] {
         "allocate" => crate::allocate(terms(), series().list(), room(9)).map(|number| number == 0),
+        "allocate_jobs" => {
+            let [accounts, shorts] = [1, 2].map(|i| to_list(words[i]));
+            let book = Book { accounts, shorts, jobs: to_jobs(words[3]), room: room(4) };
+            crate::allocate_jobs(&book).map(|(number, _)| number == 0)
+        }
         "read" => crate::read(&to_bytes(words[1]), [2, 3, 4].map(room)),
         "write" => crate::write(terms(), series().list(), room(9)),
         "change" => crate::change(&to_bytes(words[1]), room(2)),

@@ -3,6 +3,7 @@
 //! differs is printed as a line that `cargo run --release --example again` takes.
 
 pub mod archive;
+pub mod books;
 pub mod cases;
 pub mod days;
 pub mod library;
@@ -13,6 +14,7 @@ pub mod random;
 
 use dilbreth::calls;
 use reference::day::{AfterDay, Investor, MarketMaker};
+use reference::jobs::{Answer, Job};
 use reference::Allocation;
 pub use reference::{Form, List, Terms, DEFAULT_INCREMENT, FORMS};
 
@@ -169,6 +171,46 @@ pub fn allocate(terms: Terms, list: List, room: usize) -> Result<u32, String> {
     let other = List { form, numbers: &numbers, ..list };
     hold(terms, other, room, &expected.map_err(exchanged))?;
     Ok(number)
+}
+
+/// A job as the library has it.
+pub fn library_job(job: Job) -> calls::Job {
+    let Job { first, positions, terms: Terms { method, exercised, draw, increment }, answer } = job;
+    let Answer { refusal, total, further } = answer;
+    let answer = calls::JobAnswer { refusal, total, further };
+    calls::Job { first, positions, method, exercised, draw, increment, answer }
+}
+
+// A record in which no two numbers are equal.
+fn kept_job(at: usize) -> calls::Job {
+    let [first, positions, exercised, draw, increment, refusal, total, further] =
+        [1, 2, 3, 4, 5, 6, 7, 8].map(|part| kept_number(at + (part << 8)));
+    let answer = calls::JobAnswer { refusal, total, further };
+    calls::Job { first, positions, method: kept_byte(at), exercised, draw, increment, answer }
+}
+
+/// The call for many series; answers its number and the answers of the jobs.
+pub fn allocate_jobs(book: &books::Book) -> Result<(u32, Vec<Answer>), String> {
+    let books::Book { accounts, shorts, jobs, room } = book;
+    let [mut lent, mut expected] = [(); 2].map(|_| Lent::new(*room, kept_number));
+    let mut done = jobs.clone();
+    let want = reference::jobs::allocate_jobs(accounts, shorts, &mut done, expected.slice()).err().unwrap_or(0);
+    let mut records = Lent::new(jobs.len(), kept_job);
+    for (record, job) in records.slice().iter_mut().zip(jobs) {
+        *record = library_job(*job);
+    }
+    let number = calls::allocate_jobs(accounts, shorts, records.slice(), lent.slice());
+    let want_records: Vec<calls::Job> = done.iter().map(|job| library_job(*job)).collect();
+    let written = expected.slice();
+    if number == want && records.is(&want_records, kept_job) && lent.is(written, kept_number) {
+        return Ok((number, done.iter().map(|job| job.answer).collect()));
+    }
+    Err(format!(
+        "{}\n  answer: expected {want}, found {number}; records differ {}, amounts differ {}",
+        cases::allocate_jobs(book),
+        records.first_difference(&want_records, kept_job),
+        lent.first_difference(written, kept_number)
+    ))
 }
 
 /// The reading call, with lent lists of the lengths for codes, accounts and numbers; answers whether the text was

@@ -132,6 +132,25 @@ fn rows(document: &'static str, head: &str) -> Vec<Vec<&'static str>> {
     rows.map(|line| line.trim_matches('|').split('|').map(str::trim).collect()).collect()
 }
 
+// README's book is that of examples/broker.c: the amounts of each series that is not refused stand in broker.out.
+#[test]
+fn the_book_of_a_broker() {
+    let printed = example("broker.out");
+    let lines: Vec<Vec<&str>> = printed.lines().skip(1).map(|line| line.split(',').collect()).collect();
+    let books = rows(README, "| Series | First, positions |");
+    assert_eq!(books.len(), 3);
+    for (i, row) in books.iter().enumerate() {
+        let series = (i + 1).to_string();
+        let amounts: Vec<&str> = lines.iter().filter(|line| line[0] == series).map(|line| line[2]).collect();
+        let stretch = numbers(row[1]);
+        assert_eq!(numbers(row[0].strip_prefix("shorts ").unwrap()).len(), stretch[1] as usize);
+        match row[3].starts_with("0, ") {
+            true => assert_eq!(row[4], amounts.join(", ")),
+            false => assert!(row[3].starts_with("9: ") && amounts.is_empty()),
+        }
+    }
+}
+
 fn numbers(words: &str) -> Vec<u32> {
     words.split(", ").map(|word| word.parse().expect(words)).collect()
 }

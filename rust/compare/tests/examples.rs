@@ -1,5 +1,5 @@
 // The examples: what the programs print for each, that docs/GUIDE.md shows it, the script that has only whole lists
-// booked, and the program of the day's activity.
+// booked, and the programs of the day's activity and of a broker's book.
 
 use std::fs::{self, File};
 use std::os::unix::fs::PermissionsExt;
@@ -360,27 +360,29 @@ fn no_list_with_more_than_the_amounts_is_booked() {
     }
 }
 
-// examples/day.c over the archive: DILBRETH_LIB, or target/staticlib of the repository.
+// A C program of the folder over the archive: DILBRETH_LIB, or target/staticlib of the repository.
+fn c_program(name: &str) -> PathBuf {
+    let program = PathBuf::from(env!("CARGO_TARGET_TMPDIR")).join(name);
+    let lib = match std::env::var_os("DILBRETH_LIB") {
+        Some(given) => PathBuf::from(given),
+        None => folder().join("../target/staticlib"),
+    };
+    let built = Command::new("gcc")
+        .args(["-std=c99", "-Wall", "-Wextra", "-Werror", "-pedantic", "-O1", "-I"])
+        .arg(folder().join("../include"))
+        .arg(folder().join(format!("{name}.c")))
+        .arg(lib.join("libdilbreth.a"))
+        .arg("-o")
+        .arg(&program)
+        .status()
+        .expect("gcc");
+    assert!(built.success());
+    program
+}
+
 fn day_program() -> &'static PathBuf {
     static PROGRAM: OnceLock<PathBuf> = OnceLock::new();
-    PROGRAM.get_or_init(|| {
-        let program = PathBuf::from(env!("CARGO_TARGET_TMPDIR")).join("day");
-        let lib = match std::env::var_os("DILBRETH_LIB") {
-            Some(given) => PathBuf::from(given),
-            None => folder().join("../target/staticlib"),
-        };
-        let built = Command::new("gcc")
-            .args(["-std=c99", "-Wall", "-Wextra", "-Werror", "-pedantic", "-O1", "-I"])
-            .arg(folder().join("../include"))
-            .arg(folder().join("day.c"))
-            .arg(lib.join("libdilbreth.a"))
-            .arg("-o")
-            .arg(&program)
-            .status()
-            .expect("gcc");
-        assert!(built.success());
-        program
-    })
+    PROGRAM.get_or_init(|| c_program("day"))
 }
 
 // Exit status, standard output and standard error of a command.
@@ -482,6 +484,25 @@ fn a_day_that_cannot_be_written() {
         let spoken = String::from_utf8(found.stderr).unwrap();
         assert_eq!((found.status.code(), spoken.as_str()), (Some(1), "day: the output could not be written\n"));
     }
+}
+
+// The third series is refused, and the others stand as if there were no such.
+#[test]
+fn a_brokers_book() {
+    let program = c_program("broker");
+    let found = Command::new(&program).output().unwrap();
+    assert_eq!(String::from_utf8(found.stdout).unwrap(), file("broker.out"));
+    let spoken = format!("broker: series 3: refused, 9: {}\n", dilbreth::explain(9));
+    assert_eq!((found.status.code(), String::from_utf8(found.stderr).unwrap()), (Some(1), spoken));
+    for (series, text) in [("1", "wheel"), ("2", "lottery")] {
+        let printed = file(&format!("{text}.out"));
+        let lines = printed.lines().skip(1).map(|line| format!("{series},{line}\n"));
+        assert!(file("broker.out").contains(&lines.collect::<String>()), "{text}");
+    }
+    let full = File::options().write(true).open("/dev/full").unwrap();
+    let found = Command::new(program).stdout(Stdio::from(full)).output().unwrap();
+    assert_eq!(found.status.code(), Some(1));
+    assert!(String::from_utf8(found.stderr).unwrap().ends_with("broker: the output could not be written\n"));
 }
 
 // The commands `./day ..` of the guide, each with the lines below it.

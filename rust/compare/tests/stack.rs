@@ -1,8 +1,9 @@
 // The calls on a thread that has 64 KB of stack in all.
 
+use compare::books::Book;
 use compare::make::{self, Series};
 use compare::random::Random;
-use compare::{library_form, Terms, DEFAULT_INCREMENT, FORMS};
+use compare::{library_form, library_job, Terms, DEFAULT_INCREMENT, FORMS};
 use dilbreth::calls;
 
 fn on_a_small_stack(call: impl FnOnce() + Send + 'static) {
@@ -51,6 +52,42 @@ fn allocating_by_code() {
     }
     by_code(make::upward(4_096), make::sharing_low_bits(&mut random, 4_096, 20));
     by_code(make::upward(4_096), make::sharing_upper_bits_of_product(&mut random, 4_096));
+}
+
+// The lists cut into as many jobs, each with 10,000,000 contracts.
+fn allocate_jobs(count: u32, terms: Vec<Terms>) {
+    let positions = 4_096 / count;
+    let mut book = Book::default();
+    for at in 0..count {
+        let mut shorts = vec![10_000_000 / positions; positions as usize];
+        shorts[0] += 10_000_000 % positions;
+        book.add(&make::upward(positions as usize), &shorts, terms[at as usize % terms.len()]);
+    }
+    on_a_small_stack(move || {
+        let Book { accounts, shorts, jobs, room } = book;
+        let mut records: Vec<calls::Job> = jobs.iter().map(|job| library_job(*job)).collect();
+        let mut amounts = vec![0; room];
+        assert_eq!(calls::allocate_jobs(&accounts, &shorts, &mut records, &mut amounts), 0);
+        for (record, job) in records.iter().zip(jobs) {
+            assert_eq!((record.answer.refusal, record.answer.total), (0, 10_000_000));
+            assert_eq!(amounts[job.stretch()].iter().sum::<u32>(), job.terms.exercised);
+        }
+    });
+}
+
+// All 4,096 positions as one job, as two and as 64, under every method and under all in turn.
+#[test]
+fn allocating_jobs() {
+    for count in [1, 2, 64] {
+        let each = make::METHODS.map(|method| Terms::new(method, 4_999_999, 10_000));
+        for terms in each {
+            allocate_jobs(count, vec![terms]);
+        }
+        allocate_jobs(count, each.to_vec());
+        // As many blocks as may be, and series that need no draw.
+        allocate_jobs(count, vec![each[0].by(5)]);
+        allocate_jobs(count, make::METHODS.map(|method| Terms::new(method, 10_000_000, 0)).to_vec());
+    }
 }
 
 fn respond(text: Vec<u8>) {

@@ -5,7 +5,7 @@ use std::sync::Barrier;
 use std::thread;
 
 use compare::random::Random;
-use compare::{archive, days, make, Count};
+use compare::{archive, books, days, make, Count};
 
 // No writable data, and of other code only what copies and fills bytes.
 #[test]
@@ -29,7 +29,7 @@ fn the_archive_keeps_nothing() {
     }
 }
 
-// Series, texts, days and words of a thread's own, each compared with the separate version.
+// Series, books, texts, days and words of a thread's own, each compared with the separate version.
 fn every_call(seed: u64) -> u64 {
     let mut random = Random::new(seed);
     let mut count = Count::new("on several threads");
@@ -38,6 +38,8 @@ fn every_call(seed: u64) -> u64 {
             count.allocate(terms, list.list(), room);
             count.case(compare::write(terms, list.list(), 2_000));
         }
+        let book = books::book(&mut random, books::Size { jobs: 8, positions: 20, total: 1_000 });
+        count.case(compare::allocate_jobs(&book).map(|(number, _)| number == 0));
         let text = make::text(&mut random, 60);
         count.case(compare::read(&text, [60; 3]));
         count.case(compare::respond(&text, reference::MOST_PRINTED));

@@ -1,4 +1,4 @@
-// The words for the refusals: docs/GUIDE.md and the header show those of the library. 21 and 22 are no refusals.
+// The words for the refusals: docs/GUIDE.md and the header show those of the library.
 
 use compare::make::METHODS;
 use compare::Count;
@@ -37,10 +37,19 @@ fn header_constant(name: &str) -> u32 {
 
 #[test]
 fn tables_show_the_words() {
-    let numbers = (1..=20).chain([23, 24]);
-    let words: Vec<(u32, String)> = numbers.map(|number| (number, dilbreth::explain(number))).collect();
+    let words: Vec<(u32, String)> = (1..=24).map(|number| (number, dilbreth::explain(number))).collect();
     assert_eq!(guide_table(), words);
     assert_eq!(header_table(), words);
+}
+
+// 21 and 22 are those of a book; 25 and above are no refusals.
+#[test]
+fn words_for_a_book() {
+    assert_eq!(dilbreth::explain(21), "there are more than 64 jobs");
+    assert_eq!(dilbreth::explain(22), "a stretch ends past the list or begins too early");
+    for number in [0, 25, 26, u32::MAX] {
+        assert_eq!(dilbreth::explain(number), "no refusal has this number");
+    }
 }
 
 #[test]
@@ -95,6 +104,8 @@ fn room_for_all_that_is_written() {
 fn one_version() {
     assert_eq!(header_constant("DILBRETH_VERSION"), dilbreth::VERSION);
     assert_eq!(header_constant("DILBRETH_DEFAULT_INCREMENT"), dilbreth::DEFAULT_INCREMENT);
+    assert_eq!(header_constant("DILBRETH_MOST_JOBS") as usize, dilbreth::MOST_JOBS);
+    assert_eq!(reference::jobs::MOST_JOBS, dilbreth::MOST_JOBS);
     assert_eq!(header_constant("DILBRETH_ORDINARY_DAY"), Day::Ordinary.number());
     assert_eq!(header_constant("DILBRETH_FINAL_DAY"), Day::Final.number());
     for (name, form) in [("DILBRETH_SHORTS", Form::Shorts), ("DILBRETH_LAST_NUMBERS", Form::LastNumbers)] {
@@ -109,6 +120,7 @@ fn one_version() {
         "DILBRETH_SHORTS",
         "DILBRETH_LAST_NUMBERS",
         "DILBRETH_DEFAULT_INCREMENT",
+        "DILBRETH_MOST_JOBS",
         "DILBRETH_ORDINARY_DAY",
         "DILBRETH_FINAL_DAY",
         "DILBRETH_LONGEST_EXPLANATION",

@@ -1,6 +1,8 @@
 // The safe wrapper, by the series with known amounts, the exhibit and the circular's days.
 
-use dilbreth::{AfterDay, Allocated, Day, Form, Investor, MarketMaker, Method, Refused, Terms, DEFAULT_INCREMENT};
+use dilbreth::{
+    AfterDay, Allocated, Day, Form, Investor, Job, MarketMaker, Method, Refused, Terms, DEFAULT_INCREMENT, MOST_JOBS,
+};
 
 const FORMS: [Form; 2] = [Form::Shorts, Form::LastNumbers];
 
@@ -269,6 +271,38 @@ fn increments() {
     assert!(dilbreth::change(text, &mut bytes).is_ok());
     let length = dilbreth::respond(text, &mut bytes).unwrap();
     assert_eq!(&bytes[..length], b"refused\n23\n");
+}
+
+// No two numbers of a job are equal, so each must reach its place.
+#[test]
+fn jobs_of_a_book() {
+    let (accounts, shorts) = ([1, 2, 9, 3, 21, 44, 4, 5], [5, 3, 0, 60, 200, 95, 7, 8]);
+    let mut jobs = [
+        Job::new(0, 2, Method::ProRata, 4, 6, 0),
+        Job::new(3, 3, Method::Wheel, 65, 340, 10),
+        Job::new(6, 2, Method::RemainderDraw, 16, 1, 25),
+    ];
+    assert_eq!(jobs.map(|job| job.stretch()), [0..2, 3..6, 6..8]);
+    assert_eq!(jobs.map(|job| job.answer()), [None; 3]);
+    let mut amounts = [9; 9];
+    // Refused as a whole: nothing is answered.
+    let late = [jobs[0], jobs[1], Job::new(6, 3, Method::RemainderDraw, 16, 1, 25)];
+    for (mut book, number) in [(late.to_vec(), 22), (vec![jobs[0]; MOST_JOBS + 1], 21), (vec![jobs[1], jobs[0]], 22)] {
+        let found = dilbreth::allocate_jobs(&accounts, &shorts, &mut book, &mut amounts);
+        assert_eq!(found, Err(Refused(number)));
+        assert!(book.iter().all(|job| job.answer().is_none()) && amounts == [9; 9]);
+    }
+    assert_eq!(dilbreth::allocate_jobs(&accounts, &shorts[1..], &mut jobs, &mut amounts), Err(Refused(1)));
+    assert_eq!(dilbreth::allocate_jobs(&accounts, &shorts, &mut jobs, &mut amounts[..7]), Err(Refused(4)));
+    assert_eq!(dilbreth::allocate_jobs(&accounts, &shorts, &mut jobs, &mut amounts), Ok(()));
+    let allocated = |total, further| Some(Ok(Allocated { total, further }));
+    assert_eq!(jobs.map(|job| job.answer()), [allocated(8, 1), allocated(355, 7), Some(Err(Refused(9)))]);
+    assert_eq!(amounts, [3, 1, 9, 10, 40, 15, 9, 9, 9]);
+    // Answers stand until the job is answered again.
+    assert_eq!(dilbreth::allocate_jobs(&accounts, &shorts, &mut jobs, &mut []), Err(Refused(4)));
+    assert_eq!(jobs[1].answer(), allocated(355, 7));
+    assert_eq!(dilbreth::allocate_jobs(&accounts[..2], &[5, 4], &mut jobs[..1], &mut amounts), Ok(()));
+    assert_eq!((jobs[0].answer(), amounts[..2].iter().sum()), (allocated(9, 1), 4u32));
 }
 
 #[test]

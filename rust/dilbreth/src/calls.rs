@@ -3,6 +3,28 @@
 
 use crate::ffi;
 
+/// What a job is answered: `dilbreth_job_answer` of the header.
+#[repr(C)]
+#[derive(Clone, Copy, Debug, PartialEq, Eq)]
+pub struct JobAnswer {
+    pub refusal: u32,
+    pub total: u32,
+    pub further: u32,
+}
+
+/// A series of a book: `dilbreth_job` of the header. The method is any byte.
+#[repr(C)]
+#[derive(Clone, Copy, Debug, PartialEq, Eq)]
+pub struct Job {
+    pub first: u32,
+    pub positions: u32,
+    pub method: u8,
+    pub exercised: u32,
+    pub draw: u32,
+    pub increment: u32,
+    pub answer: JobAnswer,
+}
+
 // Each `unsafe` below: a reference is never null, a slice has its length, and what is lent as `&mut`
 // overlaps with nothing else.
 
@@ -37,6 +59,21 @@ pub fn allocate(
             amounts.len(),
             total,
             further,
+        )
+    }
+}
+
+pub fn allocate_jobs(accounts: &[u32], shorts: &[u32], jobs: &mut [Job], amounts: &mut [u32]) -> u32 {
+    unsafe {
+        ffi::dilbreth_allocate_jobs(
+            accounts.as_ptr(),
+            accounts.len(),
+            shorts.as_ptr(),
+            shorts.len(),
+            jobs.as_mut_ptr(),
+            jobs.len(),
+            amounts.as_mut_ptr(),
+            amounts.len(),
         )
     }
 }

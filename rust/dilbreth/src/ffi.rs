@@ -1,5 +1,7 @@
 //! The functions of the archive, as `include/dilbreth.h` has them.
 
+use crate::calls::Job;
+
 extern "C" {
     pub fn dilbreth_version() -> u32;
 
@@ -19,6 +21,17 @@ extern "C" {
         amounts_len: usize,
         total: *mut u32,
         further: *mut u32,
+    ) -> u32;
+
+    pub fn dilbreth_allocate_jobs(
+        accounts: *const u32,
+        accounts_len: usize,
+        shorts: *const u32,
+        shorts_len: usize,
+        jobs: *mut Job,
+        jobs_len: usize,
+        amounts: *mut u32,
+        amounts_len: usize,
     ) -> u32;
 
     pub fn dilbreth_read(

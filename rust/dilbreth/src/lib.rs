@@ -1,19 +1,21 @@
 //! Exercise assignment of option contracts: a safe wrapper over `libdilbreth.a`.
 //!
 //! Any number of threads may be in any of the calls at once: no call keeps anything from one time to the next. 64 KB of
-//! stack that are free at the call are enough for any of them; `respond` and `allocate` need most of that.
-//! `compare/tests/stack.rs` runs each call on a thread that has 64 KB in all, with lists and texts as long as may be, in
-//! both forms, and under every method where amounts are worked out.
+//! stack that are free at the call are enough for any of them; `respond`, `allocate` and `allocate_jobs` need most of
+//! that. `compare/tests/stack.rs` runs each call on a thread that has 64 KB in all, with lists and texts as long as may
+//! be, in both forms, and under every method where amounts are worked out.
 //!
 //! An archive of another number than `VERSION` does not link: the linker names `dilbreth_version_` with the wrapper's
 //! number as undefined.
 
 pub mod calls;
 mod ffi;
+mod jobs;
 mod version;
 
 use std::fmt;
 
+pub use jobs::{allocate_jobs, Job, MOST_JOBS};
 pub use version::{version, VERSION};
 
 #[derive(Clone, Copy, Debug, PartialEq, Eq)]

@@ -14,7 +14,7 @@ macro_rules! numbered {
     };
 }
 
-numbered!(8);
+numbered!(9);
 
 #[used]
 static LINKED: unsafe extern "C" fn() -> u32 = dilbreth_version_numbered;

@@ -2,6 +2,7 @@
 //! Slow on purpose: it is what the library is compared with.
 
 pub mod day;
+pub mod jobs;
 
 use std::cmp::Reverse;
 use std::collections::HashSet;

@@ -1,6 +1,7 @@
 use super::*;
 
 mod increments;
+mod jobs;
 
 // Method, shorts, S, draw, amounts, T and the further number, from the document's table.
 type Known = (u8, &'static [u32], u32, u32, &'static [u32], u32, u32);
