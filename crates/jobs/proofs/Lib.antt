@@ -5,7 +5,7 @@ pub mod OrderLaws
 pub mod JobFair
 pub mod Claims
 mod JobLaws
-mod JudgeLaws
+pub mod JudgeLaws
 mod Ends
 mod TurnLaws
 mod JobsCallLaws
