@@ -2,4 +2,5 @@
 mod ExportLaws
 mod DayLaws
 pub mod JobsLaws
+mod MergeLaws
 pub mod Claims

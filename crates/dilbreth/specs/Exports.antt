@@ -6,10 +6,12 @@ use lib.Dec.{ltb}
 use lib.ListN.{length}
 use Rattle.series.specs.Results.{Result, value, _>>=_, refuse, after, status}
 use Rattle.series.specs.Outputs.{onto, Lent}
+use Rattle.series.specs.Places.{total as sum}
 use Rattle.series.specs.Series.{termsOf}
 use Rattle.series.specs.Answers.{Allocation, handedBack}
 use Rattle.series.specs.Call.{answer, output}
 use Rattle.forms.specs.Forms.{Listing, seriesIn, inForm}
+use Rattle.merging.specs.Merging.{Position, shortsOf, ListsMerged}
 use Rattle.answer_numbers.specs.Numbers.{formBy, formNumber}
 use Rattle.text_rules.specs.Fields.{Text}
 use Rattle.text_rules.specs.Letters.{letter, methodBy}
@@ -45,6 +47,13 @@ pub record Reads (s : Result Listing) (r : ℕ) (letters exercised draw incremen
   pub hands-form : form .new ≡ after s (λ t. formNumber (t .form)) (form .old)
   pub lists : ListsRead s codes accounts numbers
   pub hands-positions : positions .new ≡ after s (λ t. length (t .accounts)) (positions .old)
+
+-- a merging call that comes to m: its answer r, both of its lists, and what it hands back: the number of positions and T
+pub record HandsMerged (m : Result (List Position)) (r : ℕ) (accounts shorts : Lent (List ℕ)) (positions total : Lent ℕ) : Type 0 where
+  pub answers : r ≡ status m
+  pub lists : ListsMerged m accounts shorts
+  pub hands-positions : positions .new ≡ after m (λ ps. length ps) (positions .old)
+  pub hands-total : total .new ≡ after m (λ ps. sum (shortsOf ps)) (total .old)
 
 -- the text of such a listing, written to an output of length room
 unfoldable pub writtenBy : Result Listing → ℕ → Result Text

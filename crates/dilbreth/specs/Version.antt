@@ -2,4 +2,4 @@
 use Prim.Native.Nat.{ℕ}
 
 abbrev pub VERSION : ℕ
-VERSION = 9
+VERSION = 10

@@ -7,12 +7,12 @@ ghost use Rattle.dilbreth.specs.Version.{VERSION};
 pub extern "C" fn dilbreth_version() -> u32
     ensures { λ r. ⌜ r ≡ VERSION ⌝ }
 {
-    9
+    10
 }
 
 // The same by a name that no archive of another number has: the header refers to it, so that the linker names it as missing.
 #[no_mangle]
-pub extern "C" fn dilbreth_version_9() -> u32
+pub extern "C" fn dilbreth_version_10() -> u32
     ensures { λ r. ⌜ r ≡ VERSION ⌝ }
 {
     dilbreth_version()

@@ -1,3 +1,3 @@
 -- Laws of judging a list, and of the chains in which it looks accounts up.
 pub mod ChainLaws
-mod ListLaws
+pub mod ListLaws
