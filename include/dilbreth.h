@@ -61,7 +61,7 @@ extern "C" {
    call or a constant is new; 1 was the first delivery's. The same number stands in
    dilbreth.pas, rust/dilbreth/src/version.rs, and crates/dilbreth/src/version.rt and
    specs/Version.antt. */
-#define DILBRETH_VERSION 9
+#define DILBRETH_VERSION 10
 
 /* The number that the archive was built with. */
 uint32_t dilbreth_version(void);
@@ -227,6 +227,56 @@ uint32_t dilbreth_allocate_jobs(const uint32_t *accounts, size_t accounts_len,
                                 const uint32_t *shorts, size_t shorts_len,
                                 dilbreth_job *jobs, size_t jobs_len,
                                 uint32_t *amounts, size_t amounts_len);
+
+/*
+ * Merges two lists of one series, as two branches send them, into one. Both rise by
+ * account, in the form of shorts, and so does the merged list; where both have an account
+ * its shorts are added. The merged list's T is the sum of both. No codes are taken: hand
+ * the merged accounts as codes where dilbreth_allocate asks for them. A wheel list in the
+ * order of other codes is not merged.
+ *
+ * Refuses the first list's faults, which are 1 to 3 and then, for each position in turn, 5,
+ * 6 and 7; then the second list's in the same order; then, of the merged list, 2, 7, and 4
+ * where either output is shorter than it.
+ *
+ * first_accounts       the account of each position of the first list, 1 or more, rising
+ * first_accounts_len   the length of first_accounts, 1 to 4,096
+ * first_shorts         the short contracts of each position, 1 or more; their sum is at
+ *                      most 10,000,000
+ * first_shorts_len     the length of first_shorts, equal to first_accounts_len
+ * second_accounts      the same of the second list
+ * second_accounts_len  the length of second_accounts, 1 to 4,096
+ * second_shorts        the same of the second list
+ * second_shorts_len    the length of second_shorts, equal to second_accounts_len
+ * accounts             receives the account of each merged position; elements past them
+ *                      are kept
+ * accounts_len         the length of accounts (4,096 is always enough)
+ * shorts               receives the short contracts of each merged position; elements past
+ *                      them are kept
+ * shorts_len           the length of shorts (4,096 is always enough)
+ * positions            receives the number of merged positions
+ * total                receives the merged list's T
+ *
+ * Two branches that both have account 5:
+ *
+ *   const uint32_t first_accounts[3] = {2, 5, 9}, first_shorts[3] = {30, 8, 1};
+ *   const uint32_t second_accounts[3] = {1, 5, 7}, second_shorts[3] = {4, 12, 20};
+ *   uint32_t accounts[6] = {0}, shorts[6] = {0}, total;
+ *   size_t positions;
+ *
+ *   dilbreth_merge(first_accounts, 3, first_shorts, 3, second_accounts, 3, second_shorts, 3,
+ *                  accounts, 6, shorts, 6, &positions, &total)
+ *
+ * answers 0. positions is then 5 and total 75; accounts is 1, 2, 5, 7, 9 and shorts is 4,
+ * 30, 20, 20, 1, each with 0 after them as before the call.
+ */
+uint32_t dilbreth_merge(const uint32_t *first_accounts, size_t first_accounts_len,
+                        const uint32_t *first_shorts, size_t first_shorts_len,
+                        const uint32_t *second_accounts, size_t second_accounts_len,
+                        const uint32_t *second_shorts, size_t second_shorts_len,
+                        uint32_t *accounts, size_t accounts_len,
+                        uint32_t *shorts, size_t shorts_len,
+                        size_t *positions, uint32_t *total);
 
 /*
  * Reads the text of a series. Refuses 11 to 15 as the text's lines meet them,

@@ -13,8 +13,8 @@ unit dilbreth;
 interface
 
 const
-  { dilbreth_version_9 below has the same number, and dilbreth.h says where else it stands. }
-  DILBRETH_VERSION = 9;
+  { dilbreth_version_10 below has the same number, and dilbreth.h says where else it stands. }
+  DILBRETH_VERSION = 10;
   DILBRETH_WHEEL = Ord('W');
   DILBRETH_PRO_RATA = Ord('P');
   DILBRETH_LOTTERY = Ord('L');
@@ -60,6 +60,15 @@ function dilbreth_allocate_jobs(
   var jobs: array of dilbreth_job; jobs_len: SizeUInt;
   var amounts: array of LongWord; amounts_len: SizeUInt): LongWord; cdecl; external;
 
+function dilbreth_merge(
+  const first_accounts: array of LongWord; first_accounts_len: SizeUInt;
+  const first_shorts: array of LongWord; first_shorts_len: SizeUInt;
+  const second_accounts: array of LongWord; second_accounts_len: SizeUInt;
+  const second_shorts: array of LongWord; second_shorts_len: SizeUInt;
+  var accounts: array of LongWord; accounts_len: SizeUInt;
+  var shorts: array of LongWord; shorts_len: SizeUInt;
+  var positions: SizeUInt; var total: LongWord): LongWord; cdecl; external;
+
 function dilbreth_read(text: PByte; text_len: SizeUInt;
   var method: Byte; var exercised, draw, increment: LongWord; var form: LongWord;
   var codes: array of LongWord; codes_len: SizeUInt;
@@ -100,9 +109,9 @@ function dilbreth_explain(number: LongWord;
 implementation
 
 { Only an archive of this number has it: no other one links. }
-function dilbreth_version_9: LongWord; cdecl; external;
+function dilbreth_version_10: LongWord; cdecl; external;
 
 initialization
-  dilbreth_version_9;
+  dilbreth_version_10;
 
 end.

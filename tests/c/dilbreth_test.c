@@ -1,6 +1,6 @@
 /* The archive and its header, from C: case M, starred series in both forms, series that need no draw, leading zeros,
-   codes, the exhibit of the remainder draw, last numbers and the change, other increments, a broker's book, the
-   circular's days, a refusal of each call, the words for a refusal. */
+   codes, the exhibit of the remainder draw, last numbers and the change, other increments, a broker's book, merged
+   lists, the circular's days, a refusal of each call, the words for a refusal. */
 #include <inttypes.h>
 #include <stddef.h>
 #include <stdio.h>
@@ -420,6 +420,74 @@ static void refused_books(void)
     see("they keep records and amounts", kept);
 }
 
+/* The two branches that the header shows. */
+static const uint32_t FIRST_ACCOUNTS[3] = {2, 5, 9}, FIRST_SHORTS[3] = {30, 8, 1};
+static const uint32_t SECOND_ACCOUNTS[3] = {1, 5, 7}, SECOND_SHORTS[3] = {4, 12, 20};
+
+/* What a merge writes, and the lengths of its outputs. */
+static struct merged {
+    uint32_t accounts[6], shorts[6], total;
+    size_t positions, accounts_len, shorts_len;
+} merged;
+
+static void clear_merged(size_t accounts_len, size_t shorts_len)
+{
+    size_t i;
+
+    for (i = 0; i < 6; i++) {
+        merged.accounts[i] = 99;
+        merged.shorts[i] = 98;
+    }
+    merged.total = 97;
+    merged.positions = 96;
+    merged.accounts_len = accounts_len;
+    merged.shorts_len = shorts_len;
+}
+
+/* Merges the first elements of the branches' lists, the second's shorts as given; answers 0 or the number. */
+static uint32_t merge(size_t first_len, size_t second_len, const uint32_t *second_shorts)
+{
+    return dilbreth_merge(FIRST_ACCOUNTS, first_len, FIRST_SHORTS, 3, SECOND_ACCOUNTS, second_len, second_shorts, 3,
+                          merged.accounts, merged.accounts_len, merged.shorts, merged.shorts_len, &merged.positions,
+                          &merged.total);
+}
+
+static void merged_lists(void)
+{
+    static const uint32_t accounts[6] = {1, 2, 5, 7, 9, 99}, shorts[6] = {4, 30, 20, 20, 1, 98};
+    uint32_t amounts[5], total, further;
+
+    clear_merged(6, 5);
+    see("merged lists", merge(3, 3, SECOND_SHORTS) == 0 && merged.positions == 5 && merged.total == 75 &&
+                            memcmp(merged.accounts, accounts, sizeof accounts) == 0 &&
+                            memcmp(merged.shorts, shorts, sizeof shorts) == 0);
+    see("a merged list is allocated",
+        dilbreth_allocate(DILBRETH_WHEEL, 75, 0, DILBRETH_DEFAULT_INCREMENT, DILBRETH_SHORTS, merged.accounts, 5,
+                          merged.accounts, 5, merged.shorts, 5, amounts, 5, &total, &further) == 0 &&
+            total == 75 && memcmp(amounts, shorts, sizeof amounts) == 0);
+}
+
+static void refused_merges(void)
+{
+    static const uint32_t none[3] = {4, 0, 20}, many[3] = {4, 12, 9999946};
+    struct merged before;
+
+    clear_merged(6, 6);
+    before = merged;
+    see("merge refuses 1 of the first list", merge(2, 3, none) == 1);
+    see("merge refuses 1 of the second list", merge(3, 4, none) == 1);
+    see("merge refuses 6 of the second list", merge(3, 3, none) == 6);
+    see("merge refuses 7 of the merged list", merge(3, 3, many) == 7);
+    merged.accounts_len = 4;
+    see("merge refuses 4 for the accounts", merge(3, 3, SECOND_SHORTS) == 4);
+    merged.accounts_len = 6;
+    merged.shorts_len = 4;
+    see("merge refuses 4 for the shorts", merge(3, 3, SECOND_SHORTS) == 4);
+    see("they keep lists and numbers", memcmp(merged.accounts, before.accounts, sizeof before.accounts) == 0 &&
+                                           memcmp(merged.shorts, before.shorts, sizeof before.shorts) == 0 &&
+                                           merged.positions == before.positions && merged.total == before.total);
+}
+
 static void refusals(void)
 {
     static const uint32_t shorts[5] = {5, 8, 2, 10, 11};
@@ -581,6 +649,8 @@ int main(void)
     layout_of_a_job();
     book();
     refused_books();
+    merged_lists();
+    refused_merges();
     refusals();
     for (i = 0; i < sizeof INVESTORS / sizeof INVESTORS[0]; i++)
         investor(&INVESTORS[i]);

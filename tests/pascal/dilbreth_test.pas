@@ -1,5 +1,6 @@
 { The unit and the archive, from Pascal: case M through each call, series that need no draw, leading zeros, codes, the
-  remainder draw, last numbers and the change, other increments, a broker's book, the circular's days, refusals. }
+  remainder draw, last numbers and the change, other increments, a broker's book, merged lists, the circular's days,
+  refusals. }
 program dilbreth_test;
 
 {$mode objfpc}
@@ -30,6 +31,13 @@ const
   BOOK_ACCOUNTS: array[0..10] of LongWord = (1, 2, 1, 2, 3, 4, 5, 0, 6, 7, 8);
   BOOK_SHORTS: array[0..10] of LongWord = (3, 1, 5, 8, 2, 10, 11, 0, 60, 200, 95);
   AMOUNTS_OF_BOOK: array[0..11] of LongWord = (999, 999, 0, 0, 0, 8, 5, 999, 10, 40, 15, 999);
+  FIRST_ACCOUNTS: array[0..2] of LongWord = (2, 5, 9);
+  FIRST_SHORTS: array[0..2] of LongWord = (30, 8, 1);
+  SECOND_ACCOUNTS: array[0..2] of LongWord = (1, 5, 7);
+  SECOND_SHORTS: array[0..2] of LongWord = (4, 12, 20);
+  MERGED_ACCOUNTS: array[0..5] of LongWord = (1, 2, 5, 7, 9, 999);
+  MERGED_SHORTS: array[0..5] of LongWord = (4, 30, 20, 20, 1, 999);
+  UNWRITTEN: array[0..5] of LongWord = (999, 999, 999, 999, 999, 999);
 
 var
   wrong: Integer = 0;
@@ -161,6 +169,43 @@ begin
   See('64 jobs of no method', (dilbreth_allocate_jobs(BOOK_ACCOUNTS, 11, BOOK_SHORTS, 11, many, DILBRETH_MOST_JOBS,
     book_amounts, 12) = 0) and (many[0].answer.refusal = 14) and (many[63].answer.refusal = 14)
     and (many[63].answer.total = 998) and (many[64].answer.refusal = 999));
+end;
+
+{ Merges the lists of two branches, the second with the first shorts of its own, into outputs of the lengths; answers 0
+  or the number of the refusal. }
+function Merge(second_shorts_len, accounts_len, shorts_len: SizeUInt): LongWord;
+begin
+  FillDWord(accounts, 6, 999);
+  FillDWord(numbers, 6, 999);
+  positions := 998;
+  total := 997;
+  Merge := dilbreth_merge(FIRST_ACCOUNTS, 3, FIRST_SHORTS, 3, SECOND_ACCOUNTS, 3, SECOND_SHORTS, second_shorts_len,
+    accounts, accounts_len, numbers, shorts_len, positions, total);
+end;
+
+{ Whether a merge wrote nothing. }
+function Unmerged: Boolean;
+begin
+  Unmerged := (CompareDWord(accounts, UNWRITTEN, 6) = 0) and (CompareDWord(numbers, UNWRITTEN, 6) = 0)
+    and (positions = 998) and (total = 997);
+end;
+
+procedure SeeMerge;
+begin
+  See('merged lists', (Merge(3, 6, 5) = 0) and (positions = 5) and (total = 75)
+    and (CompareDWord(accounts, MERGED_ACCOUNTS, 6) = 0) and (CompareDWord(numbers, MERGED_SHORTS, 6) = 0));
+  See('a merged list is allocated', (dilbreth_allocate(DILBRETH_WHEEL, 75, 0, DILBRETH_DEFAULT_INCREMENT,
+    DILBRETH_SHORTS, accounts, positions, accounts, positions, numbers, positions, amounts, 6, total, further) = 0)
+    and (total = 75) and (CompareDWord(amounts, MERGED_SHORTS, 5) = 0));
+  See('merge refuses 1', (Merge(2, 6, 6) = 1) and Unmerged);
+  See('merge refuses 4 for the accounts', (Merge(3, 4, 6) = 4) and Unmerged);
+  See('merge refuses 4 for the shorts', (Merge(3, 6, 4) = 4) and Unmerged);
+  See('merge refuses 5 of the second list', (dilbreth_merge(FIRST_ACCOUNTS, 3, FIRST_SHORTS, 3, FIRST_SHORTS, 3,
+    SECOND_SHORTS, 3, accounts, 6, numbers, 6, positions, total) = 5) and Unmerged);
+  See('merge from parts of the lists', (dilbreth_merge(FIRST_ACCOUNTS[1], 2, FIRST_SHORTS[1], 2, SECOND_ACCOUNTS[2], 1,
+    SECOND_SHORTS[2], 1, accounts[1], 3, numbers[2], 3, positions, total) = 0) and (positions = 3) and (total = 29)
+    and (accounts[0] = 999) and (accounts[1] = 5) and (accounts[3] = 9) and (accounts[4] = 999)
+    and (numbers[1] = 999) and (numbers[2] = 8) and (numbers[3] = 20) and (numbers[4] = 1) and (numbers[5] = 999));
 end;
 
 { An investor's day; answers 0 or the number of the refusal. }
@@ -311,6 +356,7 @@ begin
     numbers, 3, amounts, 6, total, further) = 19);
   SeeLayout;
   SeeBook;
+  SeeMerge;
   See('investor X', (Investor(DILBRETH_ORDINARY_DAY, 15, 0, 20, 0, 0, 10, 35) = 0) and After(35, 0, 10));
   See('investor X, final day', (Investor(DILBRETH_FINAL_DAY, 15, 0, 20, 0, 0, 10, 25) = 0) and After(25, 0, 0));
   See('investor Y', (Investor(DILBRETH_ORDINARY_DAY, 0, 20, 20, 0, 0, 0, 0) = 0) and After(20, 20, 20));

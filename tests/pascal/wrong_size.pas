@@ -45,6 +45,14 @@ begin
   dilbreth_allocate_jobs(list, 0, other_list, 0, jobs, 0, list, 0); { refused }
   dilbreth_allocate_jobs(list, 0, list, 0, other_jobs, 0, list, 0); { refused }
   dilbreth_allocate_jobs(list, 0, list, 0, jobs, 0, other_list, 0); { refused }
+  dilbreth_merge(other_list, 0, list, 0, list, 0, list, 0, list, 0, list, 0, len, number); { refused }
+  dilbreth_merge(list, 0, other_list, 0, list, 0, list, 0, list, 0, list, 0, len, number); { refused }
+  dilbreth_merge(list, 0, list, 0, other_list, 0, list, 0, list, 0, list, 0, len, number); { refused }
+  dilbreth_merge(list, 0, list, 0, list, 0, other_list, 0, list, 0, list, 0, len, number); { refused }
+  dilbreth_merge(list, 0, list, 0, list, 0, list, 0, other_list, 0, list, 0, len, number); { refused }
+  dilbreth_merge(list, 0, list, 0, list, 0, list, 0, list, 0, other_list, 0, len, number); { refused }
+  dilbreth_merge(list, 0, list, 0, list, 0, list, 0, list, 0, list, 0, other_len, number); { refused }
+  dilbreth_merge(list, 0, list, 0, list, 0, list, 0, list, 0, list, 0, len, other_number); { refused }
   dilbreth_read(bytes, 0, other_letter, number, number, number, number, list, 0, list, 0, list, 0, len); { refused }
   dilbreth_read(bytes, 0, letter, other_number, number, number, number, list, 0, list, 0, list, 0, len); { refused }
   dilbreth_read(bytes, 0, letter, number, other_number, number, number, list, 0, list, 0, list, 0, len); { refused }

@@ -5,6 +5,7 @@ use std::process::Stdio;
 use std::time::{Duration, Instant};
 
 use compare::books::Book;
+use compare::branches::{self, Branch, Kind};
 use compare::make::{self, Columns, Field, Series};
 use compare::program::{Program, TextFile, PROGRAMS};
 use compare::random::Random;
@@ -424,6 +425,96 @@ fn many_series() {
     books_row("night", &night(100_000));
 }
 
+// Pairs of lists with so many positions each, of 1 to 200 contracts; all first lists together have 16,384 positions, or
+// nearly.
+fn pairs(kind: Kind, positions: usize) -> Vec<[Branch; 2]> {
+    let mut random = Random::new(0xBE7C_9000);
+    let pair = |_| {
+        // More accounts than the lists need, which are then cut.
+        let pool: Vec<u32> = (0..4 * positions as u32).map(|at| 1_000 * at + random.between(1, 1_000) as u32).collect();
+        branches::accounts(&mut random, kind, &pool).map(|mut accounts| {
+            accounts.truncate(positions);
+            assert_eq!(accounts.len(), positions);
+            let shorts = accounts.iter().map(|_| random.spread(200) as u32).collect();
+            Branch { accounts, shorts }
+        })
+    };
+    (0..16_384 / positions).map(pair).collect()
+}
+
+type Merge = fn(List, List, &mut [u32], &mut [u32]) -> Result<(usize, u32), u32>;
+
+// The library's call as plain Rust has it.
+fn library_merge(first: List, second: List, accounts: &mut [u32], shorts: &mut [u32]) -> Result<(usize, u32), u32> {
+    let (mut positions, mut total) = (0, 0);
+    let (of_first, of_second, p, t) = (first.numbers, second.numbers, &mut positions, &mut total);
+    match calls::merge(first.accounts, of_first, second.accounts, of_second, accounts, shorts, p, t) {
+        0 => Ok((positions, total)),
+        number => Err(number),
+    }
+}
+
+fn merge_row(name: &str, kind: Kind, positions: usize) {
+    let pairs = pairs(kind, positions);
+    // The merged positions of all pairs.
+    let merge_all = |merge: Merge, accounts: &mut [u32], shorts: &mut [u32]| {
+        let mut merged = 0;
+        for pair in black_box(&pairs) {
+            let [first, second] = pair.each_ref().map(|list| List::by_account(&list.accounts, &list.shorts));
+            merged += black_box(merge(first, second, accounts, shorts)).expect("a merged list").0;
+            black_box((&accounts, &shorts));
+        }
+        merged
+    };
+    let [mut a, mut s, mut a2, mut s2, mut a3, mut s3] = [(); 6].map(|_| vec![0; MOST_POSITIONS]);
+    let merged = merge_all(library_merge, &mut a, &mut s);
+    let mut call_library = || assert_eq!(merge_all(library_merge, &mut a, &mut s), merged);
+    let mut call_plain = || assert_eq!(merge_all(plain::merge, &mut a2, &mut s2), merged);
+    let mut call_other = || assert_eq!(merge_all(plain::merge_without_branches, &mut a3, &mut s3), merged);
+    let times = medians([&mut call_library, &mut call_plain, &mut call_other]);
+    let [library, plain, other] = times.map(|all| all / pairs.len() as f64);
+    println!(
+        "{name:<14}{:>14}{:>10}{:>12}{:>12}{:>12}{:>12.2}{:>15.2}",
+        format!("{positions} + {positions}"),
+        merged / pairs.len(),
+        time(library),
+        time(plain),
+        time(other),
+        library / plain,
+        library / other
+    );
+}
+
+fn merges() {
+    println!();
+    println!(
+        "Merged lists: one call. 'plain' is the library's algorithm in plain Rust: each list is judged, a walk down both"
+    );
+    println!(
+        "counts the merged positions, and another one writes them. 'branchless' has no branch on how two accounts compare:"
+    );
+    println!(
+        "faster where their order is random, slower where it can be foreseen. 'below': the first list's accounts are"
+    );
+    println!(
+        "all below the second's; 'mixed': in random order, one in three of them in both. Many pairs are merged in turn, so"
+    );
+    println!(
+        "that no order is known from the call before; 'merged' is the mean of their positions. No output is cleared."
+    );
+    println!(
+        "{:<14}{:>14}{:>10}{:>12}{:>12}{:>12}{:>12}{:>15}",
+        "accounts", "positions", "merged", "library", "plain", "branchless", "to plain", "to branchless"
+    );
+    let kinds =
+        [("below", Kind::Below), ("alternating", Kind::Alternating), ("mixed", Kind::Mixed(3)), ("equal", Kind::Equal)];
+    for positions in [10, 100, 2_048] {
+        for (name, kind) in kinds {
+            merge_row(name, kind, positions);
+        }
+    }
+}
+
 fn rate(bytes: usize, nanoseconds: f64) -> String {
     format!("{:.0} MB/s", bytes as f64 / nanoseconds * 1e3)
 }
@@ -706,11 +797,24 @@ fn main() {
     if std::env::args().any(|a| a == "--test") {
         return;
     }
-    allocations();
-    distinct_accounts();
-    many_series();
-    texts();
-    changes();
-    whole_days();
-    whole_runs();
+    let tables: [(&str, fn()); 8] = [
+        ("allocations", allocations),
+        ("distinct", distinct_accounts),
+        ("series", many_series),
+        ("merge", merges),
+        ("texts", texts),
+        ("changes", changes),
+        ("days", whole_days),
+        ("runs", whole_runs),
+    ];
+    // Those that are named, or all.
+    let names: Vec<String> = std::env::args().skip(1).filter(|word| !word.starts_with('-')).collect();
+    for name in &names {
+        assert!(tables.iter().any(|(table, _)| table == name), "no such table: {name}");
+    }
+    for (table, print) in tables {
+        if names.is_empty() || names.iter().any(|name| name == table) {
+            print();
+        }
+    }
 }

@@ -7,6 +7,7 @@ use reference::jobs::Job;
 use reference::{Form, List, Terms};
 
 use crate::books::{self, Book};
+use crate::branches::{Branch, Branches};
 use crate::make::Series;
 use crate::program::{Feed, Program};
 
@@ -60,6 +61,11 @@ fn jobs(jobs: &[Job]) -> String {
 pub fn allocate_jobs(book: &Book) -> String {
     let Book { accounts, shorts, jobs: of_book, room } = book;
     format!("allocate_jobs {} {} {} {room}", list(accounts), list(shorts), jobs(of_book))
+}
+
+pub fn merge(branches: &Branches) -> String {
+    let lists = branches.lists.each_ref().map(|of| format!("{} {}", list(&of.accounts), list(&of.shorts)));
+    format!("merge {} {}", lists.join(" "), branches.rooms.map(|room| room.to_string()).join(" "))
 }
 
 pub fn read(text: &[u8], rooms: [usize; 3]) -> String {
@@ -167,6 +173,10 @@ pub fn again(line: &str) -> Result<bool, String> {
             let [accounts, shorts] = [1, 2].map(|i| to_list(words[i]));
             let book = Book { accounts, shorts, jobs: to_jobs(words[3]), room: room(4) };
             crate::allocate_jobs(&book).map(|(number, _)| number == 0)
+        }
+        "merge" => {
+            let lists = [1, 3].map(|i| Branch { accounts: to_list(words[i]), shorts: to_list(words[i + 1]) });
+            crate::merge(&Branches { lists, rooms: [5, 6].map(room) }).map(|number| number == 0)
         }
         "read" => crate::read(&to_bytes(words[1]), [2, 3, 4].map(room)),
         "write" => crate::write(terms(), series().list(), room(9)),

@@ -4,6 +4,7 @@
 
 pub mod archive;
 pub mod books;
+pub mod branches;
 pub mod cases;
 pub mod days;
 pub mod library;
@@ -61,6 +62,11 @@ impl<T: Copy + PartialEq> Lent<T> {
         }
         "nowhere".to_string()
     }
+}
+
+// The first difference of each output of numbers.
+fn first_differences<const N: usize>(lent: &[Lent<u32>; N], lists: [&[u32]; N]) -> [String; N] {
+    std::array::from_fn(|at| lent[at].first_difference(lists[at], kept_number))
 }
 
 // The amounts add up to S, none is above its shorts, and under P each is less than one from its exact share.
@@ -213,6 +219,39 @@ pub fn allocate_jobs(book: &books::Book) -> Result<(u32, Vec<Answer>), String> {
     ))
 }
 
+/// The merging call; answers 0 or the number of the refusal.
+pub fn merge(branches: &branches::Branches) -> Result<u32, String> {
+    let expected = reference::merge::merge(branches.positions(), branches.rooms);
+    let mut lent = branches.rooms.map(|room| Lent::new(room, kept_number));
+    let (mut positions, mut total) = (!3, kept_number(1));
+    let kept = (positions, total);
+    let [(first_accounts, first_shorts), (second_accounts, second_shorts)] = branches.positions();
+    let [accounts, shorts] = lent.each_mut().map(Lent::slice);
+    let number = calls::merge(
+        first_accounts,
+        first_shorts,
+        second_accounts,
+        second_shorts,
+        accounts,
+        shorts,
+        &mut positions,
+        &mut total,
+    );
+    let (want, lists) = match &expected {
+        Ok(merged) => ((0, (merged.accounts.len(), merged.total)), [&merged.accounts[..], &merged.shorts]),
+        Err(n) => ((*n, kept), [&[][..]; 2]),
+    };
+    let found = (number, (positions, total));
+    if found == want && lent.iter().zip(lists).all(|(lent, list)| lent.is(list, kept_number)) {
+        return Ok(number);
+    }
+    Err(format!(
+        "{}\n  answer, positions and T: expected {want:?}, found {found:?}; accounts, shorts differ {:?}",
+        cases::merge(branches),
+        first_differences(&lent, lists)
+    ))
+}
+
 /// The reading call, with lent lists of the lengths for codes, accounts and numbers; answers whether the text was
 /// accepted.
 pub fn read(text: &[u8], rooms: [usize; 3]) -> Result<bool, String> {
@@ -245,11 +284,10 @@ pub fn read(text: &[u8], rooms: [usize; 3]) -> Result<bool, String> {
     if found == want && lent.iter().zip(lists).all(|(lent, list)| lent.is(list, kept_number)) {
         return Ok(number == 0);
     }
-    let differ: Vec<String> =
-        lent.iter().zip(lists).map(|(lent, list)| lent.first_difference(list, kept_number)).collect();
     Err(format!(
-        "{}\n  answer and terms: expected {want:?}, found {found:?}; codes, accounts, numbers differ {differ:?}",
-        cases::read(text, rooms)
+        "{}\n  answer and terms: expected {want:?}, found {found:?}; codes, accounts, numbers differ {:?}",
+        cases::read(text, rooms),
+        first_differences(&lent, lists)
     ))
 }
 

@@ -1,5 +1,6 @@
 //! Plain Rust for the same answers: what the benchmarks measure against.
 
+use std::cmp::Ordering;
 use std::collections::HashSet;
 
 use reference::{Form, List, Terms};
@@ -499,6 +500,122 @@ fn remainder_draw<N: Numbers>(terms: Terms, numbers: N, total: u32, amounts: &mu
     let start = terms.draw % total + 1;
     numbers.run(total, terms.exercised, start, amounts);
     start
+}
+
+/// How many accounts stand in either list, both rising.
+fn merged_positions(first: &[u32], second: &[u32]) -> usize {
+    let (mut i, mut j, mut both) = (0, 0, 0);
+    while i < first.len() && j < second.len() {
+        match first[i].cmp(&second[j]) {
+            Ordering::Less => i += 1,
+            Ordering::Greater => j += 1,
+            Ordering::Equal => {
+                i += 1;
+                j += 1;
+                both += 1;
+            }
+        }
+    }
+    first.len() + second.len() - both
+}
+
+/// What is left of the accounts and shorts of two lists, one of which is through.
+fn write_rest(first: (&[u32], &[u32]), second: (&[u32], &[u32]), accounts: &mut [u32], shorts: &mut [u32]) {
+    let (rest, of_rest) = if first.0.is_empty() { second } else { first };
+    accounts.copy_from_slice(rest);
+    shorts.copy_from_slice(of_rest);
+}
+
+/// Writes the merged list to outputs of its length.
+fn write_merged(first: List, second: List, accounts: &mut [u32], shorts: &mut [u32]) {
+    let (of_first, of_second) = (&first.numbers[..first.accounts.len()], &second.numbers[..second.accounts.len()]);
+    let (first, second) = (first.accounts, second.accounts);
+    let (mut i, mut j, mut at) = (0, 0, 0);
+    while i < first.len() && j < second.len() {
+        let (a, b) = (first[i], second[j]);
+        (accounts[at], shorts[at]) = match a.cmp(&b) {
+            Ordering::Less => {
+                i += 1;
+                (a, of_first[i - 1])
+            }
+            Ordering::Greater => {
+                j += 1;
+                (b, of_second[j - 1])
+            }
+            Ordering::Equal => {
+                i += 1;
+                j += 1;
+                (a, of_first[i - 1] + of_second[j - 1])
+            }
+        };
+        at += 1;
+    }
+    write_rest((&first[i..], &of_first[i..]), (&second[j..], &of_second[j..]), &mut accounts[at..], &mut shorts[at..]);
+}
+
+fn merge_by(
+    (first, second): (List, List),
+    (accounts, shorts): (&mut [u32], &mut [u32]),
+    positions: impl FnOnce(&[u32], &[u32]) -> usize,
+    write: impl FnOnce(List, List, &mut [u32], &mut [u32]),
+) -> Result<(usize, u32), u32> {
+    let judge_branch = |list| judge::<Shorts>(b'P', list, usize::MAX);
+    let total = judge_branch(first)? + judge_branch(second)?;
+    let count = positions(first.accounts, second.accounts);
+    if count > 4_096 {
+        return Err(2);
+    }
+    if total > MOST {
+        return Err(7);
+    }
+    if accounts.len() < count || shorts.len() < count {
+        return Err(4);
+    }
+    write(first, second, &mut accounts[..count], &mut shorts[..count]);
+    Ok((count, total))
+}
+
+/// Merges two lists by account, in the form of shorts: the number of positions and T, or a refusal.
+pub fn merge(first: List, second: List, accounts: &mut [u32], shorts: &mut [u32]) -> Result<(usize, u32), u32> {
+    merge_by((first, second), (accounts, shorts), merged_positions, write_merged)
+}
+
+fn merged_positions_without_branches(first: &[u32], second: &[u32]) -> usize {
+    let (mut i, mut j, mut both) = (0, 0, 0);
+    while i < first.len() && j < second.len() {
+        let (a, b) = (first[i], second[j]);
+        both += usize::from(a == b);
+        i += usize::from(a <= b);
+        j += usize::from(b <= a);
+    }
+    first.len() + second.len() - both
+}
+
+fn write_merged_without_branches(first: List, second: List, accounts: &mut [u32], shorts: &mut [u32]) {
+    let (of_first, of_second) = (&first.numbers[..first.accounts.len()], &second.numbers[..second.accounts.len()]);
+    let (first, second) = (first.accounts, second.accounts);
+    let (mut i, mut j, mut at) = (0, 0, 0);
+    while i < first.len() && j < second.len() {
+        let (a, b) = (first[i], second[j]);
+        let (in_first, in_second) = (a <= b, b <= a);
+        accounts[at] = a.min(b);
+        shorts[at] = of_first[i] * u32::from(in_first) + of_second[j] * u32::from(in_second);
+        i += usize::from(in_first);
+        j += usize::from(in_second);
+        at += 1;
+    }
+    write_rest((&first[i..], &of_first[i..]), (&second[j..], &of_second[j..]), &mut accounts[at..], &mut shorts[at..]);
+}
+
+/// As `merge`, without a branch on how two accounts compare.
+pub fn merge_without_branches(
+    first: List,
+    second: List,
+    accounts: &mut [u32],
+    shorts: &mut [u32],
+) -> Result<(usize, u32), u32> {
+    let (positions, write) = (merged_positions_without_branches, write_merged_without_branches);
+    merge_by((first, second), (accounts, shorts), positions, write)
 }
 
 /// The increment of a text without the column.

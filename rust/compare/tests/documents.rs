@@ -151,6 +151,21 @@ fn the_book_of_a_broker() {
     }
 }
 
+// README's two branches are those of examples/branches.c: the merged list stands in branches.out, each of its shorts the
+// sum of both.
+#[test]
+fn the_lists_of_two_branches() {
+    let printed = example("branches.out");
+    let merged: Vec<&str> = printed.lines().skip(1).take_while(|line| !line.starts_with("account")).collect();
+    let rows = rows(README, "| Account | First branch | Second branch | Merged |");
+    let shown: Vec<String> = rows.iter().map(|row| format!("{},{}", row[0], row[3])).collect();
+    assert_eq!(shown, merged);
+    let of = |cell: &str| if cell.is_empty() { 0 } else { numbers(cell)[0] };
+    for row in &rows {
+        assert_eq!(of(row[1]) + of(row[2]), of(row[3]), "{row:?}");
+    }
+}
+
 fn numbers(words: &str) -> Vec<u32> {
     words.split(", ").map(|word| word.parse().expect(words)).collect()
 }

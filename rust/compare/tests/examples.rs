@@ -1,5 +1,5 @@
 // The examples: what the programs print for each, that docs/GUIDE.md shows it, the script that has only whole lists
-// booked, and the programs of the day's activity and of a broker's book.
+// booked, and the programs of the day's activity, of a broker's book and of two branches.
 
 use std::fs::{self, File};
 use std::os::unix::fs::PermissionsExt;
@@ -10,7 +10,7 @@ use std::sync::OnceLock;
 use compare::make;
 use compare::program::Program::{Assign, ChangeForm};
 use compare::program::{Feed, TextFile};
-use compare::{Form, Terms};
+use compare::{Form, List, Terms};
 
 const GUIDE: &str = include_str!("../../../docs/GUIDE.md");
 
@@ -386,10 +386,22 @@ fn day_program() -> &'static PathBuf {
 }
 
 // Exit status, standard output and standard error of a command.
-fn day(words: &str) -> (Option<i32>, String, String) {
-    let found = Command::new(day_program()).args(words.split(' ').filter(|word| !word.is_empty())).output().unwrap();
+fn said(command: &mut Command) -> (Option<i32>, String, String) {
+    let found = command.output().unwrap();
     let text = |bytes| String::from_utf8(bytes).unwrap();
     (found.status.code(), text(found.stdout), text(found.stderr))
+}
+
+// What a program that cannot write its output says; its exit status is 1.
+fn with_a_full_output(command: &mut Command) -> String {
+    let full = File::options().write(true).open("/dev/full").unwrap();
+    let found = command.stdout(Stdio::from(full)).output().unwrap();
+    assert_eq!(found.status.code(), Some(1));
+    String::from_utf8(found.stderr).unwrap()
+}
+
+fn day(words: &str) -> (Option<i32>, String, String) {
+    said(Command::new(day_program()).args(words.split(' ').filter(|word| !word.is_empty())))
 }
 
 #[test]
@@ -479,10 +491,8 @@ fn wrong_arguments_of_a_day() {
 fn a_day_that_cannot_be_written() {
     for words in ["market-maker final 9 1 1 1", "investor ordinary 0 0 0 0 0 0 0", "market-maker final 9 1 1 10000001"]
     {
-        let full = File::options().write(true).open("/dev/full").unwrap();
-        let found = Command::new(day_program()).args(words.split(' ')).stdout(Stdio::from(full)).output().unwrap();
-        let spoken = String::from_utf8(found.stderr).unwrap();
-        assert_eq!((found.status.code(), spoken.as_str()), (Some(1), "day: the output could not be written\n"));
+        let spoken = with_a_full_output(Command::new(day_program()).args(words.split(' ')));
+        assert_eq!(spoken, "day: the output could not be written\n");
     }
 }
 
@@ -490,19 +500,33 @@ fn a_day_that_cannot_be_written() {
 #[test]
 fn a_brokers_book() {
     let program = c_program("broker");
-    let found = Command::new(&program).output().unwrap();
-    assert_eq!(String::from_utf8(found.stdout).unwrap(), file("broker.out"));
-    let spoken = format!("broker: series 3: refused, 9: {}\n", dilbreth::explain(9));
-    assert_eq!((found.status.code(), String::from_utf8(found.stderr).unwrap()), (Some(1), spoken));
+    let refused = format!("broker: series 3: refused, 9: {}\n", dilbreth::explain(9));
+    assert_eq!(said(&mut Command::new(&program)), (Some(1), file("broker.out"), refused));
     for (series, text) in [("1", "wheel"), ("2", "lottery")] {
         let printed = file(&format!("{text}.out"));
         let lines = printed.lines().skip(1).map(|line| format!("{series},{line}\n"));
         assert!(file("broker.out").contains(&lines.collect::<String>()), "{text}");
     }
-    let full = File::options().write(true).open("/dev/full").unwrap();
-    let found = Command::new(program).stdout(Stdio::from(full)).output().unwrap();
-    assert_eq!(found.status.code(), Some(1));
-    assert!(String::from_utf8(found.stderr).unwrap().ends_with("broker: the output could not be written\n"));
+    assert!(with_a_full_output(&mut Command::new(program)).ends_with("broker: the output could not be written\n"));
+}
+
+// The list of two branches, by hand and as the separate version merges it, and its amounts; then a refused one.
+#[test]
+fn the_lists_of_two_branches() {
+    let program = c_program("branches");
+    let printed = file("branches.out");
+    let refused = format!("branches: north and west: refused, 5: {}\n", dilbreth::explain(5));
+    assert_eq!(said(&mut Command::new(&program)), (Some(1), printed.clone(), refused));
+    let merged = reference::merge::merge([(&[2, 5, 9], &[30, 8, 1]), (&[1, 5, 7], &[4, 12, 20])], [5; 2]).unwrap();
+    let list = List::by_account(&merged.accounts, &merged.shorts);
+    let assigned = reference::allocate(Terms::new(b'P', 40, 0), list, 5).unwrap();
+    let lines = |name: &str, numbers: &[u32]| {
+        let lines = merged.accounts.iter().zip(numbers).map(|(account, number)| format!("{account},{number}\n"));
+        format!("account,{name}\n{}", lines.collect::<String>())
+    };
+    assert_eq!(printed, lines("short", &[4, 30, 20, 20, 1]) + &lines("assigned", &[2, 16, 11, 11, 0]));
+    assert_eq!(printed, lines("short", &merged.shorts) + &lines("assigned", &assigned.amounts));
+    assert!(with_a_full_output(&mut Command::new(program)).ends_with("branches: the output could not be written\n"));
 }
 
 // The commands `./day ..` of the guide, each with the lines below it.

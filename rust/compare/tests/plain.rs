@@ -1,7 +1,7 @@
 // What the benchmarks measure against gives the same answers.
 
 use compare::random::Random;
-use compare::{cases, days, make, plain, Count, Form, List, Terms, FORMS, LAST_REFUSAL};
+use compare::{branches, cases, days, make, plain, Count, Form, List, Terms, FORMS, LAST_REFUSAL};
 use reference::{Allocation, Series};
 
 type Plain = fn(Terms, List, &mut [u32]) -> Result<(u32, u32), u32>;
@@ -58,6 +58,38 @@ fn plain_allocation() {
     println!("plain: refused by 5 {}, by 19 {}, by 6 {}, by 20 {}", met[5], met[19], met[6], met[20]);
     println!("plain: refused by 23 {}, by 24 {}", met[23], met[24]);
     assert!([0, 1, 4, 5, 6, 7, 8, 9, 10, 19, 20, 23, 24].iter().all(|&number| met[number] > 0));
+}
+
+#[test]
+fn plain_merging() {
+    let mut random = Random::new(0xBE7C_0006);
+    let mut count = Count::new("plain merging");
+    let mut met = [0; LAST_REFUSAL + 1];
+    for case in 0..20_000 {
+        let positions = if case % 200 == 0 { 6_000 } else { 60 };
+        let mut pair = branches::branches(&mut random, branches::Size { positions, total: 10_000_000 });
+        for list in &mut pair.lists {
+            if random.one_in(4) {
+                branches::damage(&mut random, list);
+            }
+        }
+        let expected = reference::merge::merge(pair.positions(), pair.rooms);
+        let [first, second] = pair.positions().map(|(accounts, shorts)| List::by_account(accounts, shorts));
+        let want = expected.as_ref().map(|merged| (merged.accounts.len(), merged.total)).map_err(|&number| number);
+        let lists = expected.map_or_else(|_| [vec![], vec![]], |merged| [merged.accounts, merged.shorts]);
+        for merge in [plain::merge, plain::merge_without_branches] {
+            let [mut accounts, mut shorts] = pair.rooms.map(|room| vec![77; room]);
+            assert_eq!(merge(first, second, &mut accounts, &mut shorts), want, "{}", cases::merge(&pair));
+            for (output, list) in [accounts, shorts].iter().zip(&lists) {
+                let rest = vec![77; output.len() - list.len()];
+                assert_eq!(*output, [&list[..], &rest].concat(), "{}", cases::merge(&pair));
+            }
+        }
+        met[want.err().map_or(0, |number| number as usize)] += 1;
+        count.case(Ok(want.is_ok()));
+    }
+    count.print();
+    assert!([0, 1, 2, 3, 4, 5, 6, 7].iter().all(|&number| met[number] > 50), "{met:?}");
 }
 
 // Holds the reading of a text against the separate version; the series, where there is one.

@@ -90,6 +90,32 @@ fn allocating_jobs() {
     }
 }
 
+// Lists of the accounts with one contract each; the number of the call and the positions of the merged list.
+fn merge(first: Vec<u32>, second: Vec<u32>, answer: (u32, usize)) {
+    on_a_small_stack(move || {
+        let [of_first, of_second] = [&first, &second].map(|accounts| vec![1; accounts.len()]);
+        let [mut accounts, mut shorts] = [(); 2].map(|_| vec![0; 4_096]);
+        let (mut positions, mut total) = (0, 0);
+        let (out, p, t) = (&mut shorts, &mut positions, &mut total);
+        let number = calls::merge(&first, &of_first, &second, &of_second, &mut accounts, out, p, t);
+        assert_eq!((number, positions), answer);
+        assert_eq!(shorts.iter().sum::<u32>(), total);
+    });
+}
+
+// The longest lists, and the longest that may be merged with no account in common, one above the other and in turn.
+#[test]
+fn merging() {
+    let whole = make::upward(4_096);
+    merge(whole.clone(), whole.clone(), (0, 4_096));
+    merge(whole.clone(), whole.iter().map(|account| account + 4_096).collect(), (2, 0));
+    let (low, high) = whole.split_at(2_048);
+    merge(low.to_vec(), high.to_vec(), (0, 4_096));
+    merge(high.to_vec(), low.to_vec(), (0, 4_096));
+    let [odd, even] = [1, 2].map(|from| (from..=4_096).step_by(2).collect());
+    merge(odd, even, (0, 4_096));
+}
+
 fn respond(text: Vec<u8>) {
     let printed = reference::printed(&text);
     assert!(printed.starts_with(b"account,assigned"));

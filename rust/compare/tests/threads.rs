@@ -5,7 +5,7 @@ use std::sync::Barrier;
 use std::thread;
 
 use compare::random::Random;
-use compare::{archive, books, days, make, Count};
+use compare::{archive, books, branches, days, make, Count};
 
 // No writable data, and of other code only what copies and fills bytes.
 #[test]
@@ -29,7 +29,7 @@ fn the_archive_keeps_nothing() {
     }
 }
 
-// Series, books, texts, days and words of a thread's own, each compared with the separate version.
+// Series, books, merged lists, texts, days and words of a thread's own, each compared with the separate version.
 fn every_call(seed: u64) -> u64 {
     let mut random = Random::new(seed);
     let mut count = Count::new("on several threads");
@@ -40,6 +40,8 @@ fn every_call(seed: u64) -> u64 {
         }
         let book = books::book(&mut random, books::Size { jobs: 8, positions: 20, total: 1_000 });
         count.case(compare::allocate_jobs(&book).map(|(number, _)| number == 0));
+        let branches = branches::branches(&mut random, branches::Size { positions: 60, total: 5_000 });
+        count.case(compare::merge(&branches).map(|number| number == 0));
         let text = make::text(&mut random, 60);
         count.case(compare::read(&text, [60; 3]));
         count.case(compare::respond(&text, reference::MOST_PRINTED));

@@ -1,7 +1,8 @@
 // The safe wrapper, by the series with known amounts, the exhibit and the circular's days.
 
 use dilbreth::{
-    AfterDay, Allocated, Day, Form, Investor, Job, MarketMaker, Method, Refused, Terms, DEFAULT_INCREMENT, MOST_JOBS,
+    AfterDay, Allocated, Branch, Day, Form, Investor, Job, MarketMaker, Merged, Method, Refused, Terms,
+    DEFAULT_INCREMENT, MOST_JOBS,
 };
 
 const FORMS: [Form; 2] = [Form::Shorts, Form::LastNumbers];
@@ -303,6 +304,32 @@ fn jobs_of_a_book() {
     assert_eq!(jobs[1].answer(), allocated(355, 7));
     assert_eq!(dilbreth::allocate_jobs(&accounts[..2], &[5, 4], &mut jobs[..1], &mut amounts), Ok(()));
     assert_eq!((jobs[0].answer(), amounts[..2].iter().sum()), (allocated(9, 1), 4u32));
+}
+
+// No two of the four lists are equal, so each must reach its place.
+#[test]
+fn lists_of_two_branches() {
+    let first = Branch { accounts: &[2, 5, 9], shorts: &[30, 8, 1] };
+    let second = Branch { accounts: &[1, 5, 7, 12], shorts: &[4, 12, 20, 3] };
+    let none = Branch { accounts: &[], shorts: &[] };
+    let large = Branch { accounts: &[7], shorts: &[10_000_001] };
+    let (mut accounts, mut shorts) = ([99; 7], [98; 8]);
+    for (one, other, [of_accounts, of_shorts], number) in [
+        (Branch { shorts: &[30, 8], ..first }, none, [7, 8], 1),
+        (first, none, [7, 8], 3),
+        (Branch { shorts: &[30, 0, 1], ..first }, large, [7, 8], 6),
+        (first, large, [7, 8], 7),
+        (first, Branch { accounts: &[7, 7], shorts: &[1, 1] }, [7, 8], 5),
+        (first, second, [5, 8], 4),
+        (first, second, [7, 5], 4),
+    ] {
+        let found = dilbreth::merge(one, other, &mut accounts[..of_accounts], &mut shorts[..of_shorts]);
+        assert_eq!((found, accounts, shorts), (Err(Refused(number)), [99; 7], [98; 8]));
+    }
+    let found = dilbreth::merge(first, second, &mut accounts[..6], &mut shorts);
+    assert_eq!(found, Ok(Merged { positions: 6, total: 78 }));
+    assert_eq!(accounts, [1, 2, 5, 7, 9, 12, 99]);
+    assert_eq!(shorts, [4, 30, 20, 20, 1, 3, 98, 98]);
 }
 
 #[test]

@@ -79,6 +79,37 @@ pub fn allocate_jobs(accounts: &[u32], shorts: &[u32], jobs: &mut [Job], amounts
 }
 
 #[allow(clippy::too_many_arguments)]
+pub fn merge(
+    first_accounts: &[u32],
+    first_shorts: &[u32],
+    second_accounts: &[u32],
+    second_shorts: &[u32],
+    accounts: &mut [u32],
+    shorts: &mut [u32],
+    positions: &mut usize,
+    total: &mut u32,
+) -> u32 {
+    unsafe {
+        ffi::dilbreth_merge(
+            first_accounts.as_ptr(),
+            first_accounts.len(),
+            first_shorts.as_ptr(),
+            first_shorts.len(),
+            second_accounts.as_ptr(),
+            second_accounts.len(),
+            second_shorts.as_ptr(),
+            second_shorts.len(),
+            accounts.as_mut_ptr(),
+            accounts.len(),
+            shorts.as_mut_ptr(),
+            shorts.len(),
+            positions,
+            total,
+        )
+    }
+}
+
+#[allow(clippy::too_many_arguments)]
 pub fn read(
     text: &[u8],
     method: &mut u8,

@@ -34,6 +34,23 @@ extern "C" {
         amounts_len: usize,
     ) -> u32;
 
+    pub fn dilbreth_merge(
+        first_accounts: *const u32,
+        first_accounts_len: usize,
+        first_shorts: *const u32,
+        first_shorts_len: usize,
+        second_accounts: *const u32,
+        second_accounts_len: usize,
+        second_shorts: *const u32,
+        second_shorts_len: usize,
+        accounts: *mut u32,
+        accounts_len: usize,
+        shorts: *mut u32,
+        shorts_len: usize,
+        positions: *mut usize,
+        total: *mut u32,
+    ) -> u32;
+
     pub fn dilbreth_read(
         text: *const u8,
         text_len: usize,

@@ -11,11 +11,13 @@
 pub mod calls;
 mod ffi;
 mod jobs;
+mod merge;
 mod version;
 
 use std::fmt;
 
 pub use jobs::{allocate_jobs, Job, MOST_JOBS};
+pub use merge::{merge, Branch, Merged};
 pub use version::{version, VERSION};
 
 #[derive(Clone, Copy, Debug, PartialEq, Eq)]

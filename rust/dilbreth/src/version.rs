@@ -14,7 +14,7 @@ macro_rules! numbered {
     };
 }
 
-numbered!(9);
+numbered!(10);
 
 #[used]
 static LINKED: unsafe extern "C" fn() -> u32 = dilbreth_version_numbered;

@@ -3,6 +3,7 @@
 
 pub mod day;
 pub mod jobs;
+pub mod merge;
 
 use std::cmp::Reverse;
 use std::collections::HashSet;

@@ -2,6 +2,7 @@ use super::*;
 
 mod increments;
 mod jobs;
+mod merge;
 
 // Method, shorts, S, draw, amounts, T and the further number, from the document's table.
 type Known = (u8, &'static [u32], u32, u32, &'static [u32], u32, u32);
