@@ -11,7 +11,7 @@ use Rattle.series.specs.Refusals.{NoneApplies}
 use Rattle.series.proofs.AcceptedLaws.{or-false}
 use Rattle.series.proofs.ResultLaws.{never, value-is, Stepped, stepped}
 use Rattle.series.proofs.RowLaws.{value-passed, passed-value}
-use Rattle.merging.specs.Merging.{Position, PositionList, Handed, positions, shortsOf, merged, judgedAlone, mergedRows, mergedInto, mergeInto, handed, ListsMerged, Merges, mergedOf}
+use Rattle.merging.specs.Merging.{Position, PositionList, Handed, positions, shortsOf, merged, judgedAlone, mergedRows, judgedMerged, mergeInto, handed, ListsMerged, Merges, mergedOf}
 use Rattle.merging.specs.Walks.{judgedBoth, Bounded, BothBounded}
 use Rattle.merging.proofs.MergeLaws.{merged-total}
 use Rattle.merging.proofs.JudgeLaws.{faultless}
@@ -28,12 +28,12 @@ module _ (one two : PositionList) where
 
   -- where there is a merged list to be written it is this one, and fits both outputs
   pub record Passed (accountsRoom shortsRoom : ℕ) : Type 0 where
-    pub comes-to : mergedInto one two accountsRoom shortsRoom ≡ value (mergedOf one two)
+    pub comes-to : judgedMerged one two accountsRoom shortsRoom ≡ value (mergedOf one two)
     pub accounts-fit : length (mergedOf one two) ≤ accountsRoom
     pub shorts-fit : length (mergedOf one two) ≤ shortsRoom
 
-  pub passed : (accountsRoom shortsRoom : ℕ) (ms : List Position) → mergedInto one two accountsRoom shortsRoom ≡ value ms → Passed accountsRoom shortsRoom
-  unfolding mergedInto mergedRows NoneApplies
+  pub passed : (accountsRoom shortsRoom : ℕ) (ms : List Position) → judgedMerged one two accountsRoom shortsRoom ≡ value ms → Passed accountsRoom shortsRoom
+  unfolding judgedMerged mergedRows NoneApplies
   passed accountsRoom shortsRoom ms e =
       let none = value-passed (mergedRows (mergedOf one two) accountsRoom shortsRoom) (mergedOf one two) ms e in
       let room = or-false _ _ (none .1 .1 .0) in
@@ -70,17 +70,17 @@ module _ (one two : PositionList) (accountsRoom shortsRoom : ℕ) where
       number-is : {m : ℕ} → _≡_ {A = Result ℕ} (refused m) (refused n) → m ≡ n
       number-is k = cc
 
-      by-first : (v w : Result ℕ) → (v >>= (λ T. w >>= (λ U. value (T + U)))) ≡ refused n → (v >>= (λ T. w >>= (λ U. mergedInto one two accountsRoom shortsRoom))) ≡ refused n
+      by-first : (v w : Result ℕ) → (v >>= (λ T. w >>= (λ U. value (T + U)))) ≡ refused n → (v >>= (λ T. w >>= (λ U. judgedMerged one two accountsRoom shortsRoom))) ≡ refused n
       by-first (refused m) w k = ap refused (number-is k)
       by-first (value T) (refused m) k = ap refused (number-is k)
       by-first (value T) (value U) k = absurd (never n _ (sym k))
 
   -- else it comes to what the merged list does
-  pub call-judged : (T : ℕ) → judgedBoth one two ≡ value T → mergeInto one two accountsRoom shortsRoom ≡ mergedInto one two accountsRoom shortsRoom
+  pub call-judged : (T : ℕ) → judgedBoth one two ≡ value T → mergeInto one two accountsRoom shortsRoom ≡ judgedMerged one two accountsRoom shortsRoom
   unfolding judgedBoth mergeInto
   call-judged T e = by-both (judgedAlone one) (judgedAlone two) e
     where
-      by-both : (v w : Result ℕ) → (v >>= (λ T. w >>= (λ U. value (T + U)))) ≡ value T → (v >>= (λ T. w >>= (λ U. mergedInto one two accountsRoom shortsRoom))) ≡ mergedInto one two accountsRoom shortsRoom
+      by-both : (v w : Result ℕ) → (v >>= (λ T. w >>= (λ U. value (T + U)))) ≡ value T → (v >>= (λ T. w >>= (λ U. judgedMerged one two accountsRoom shortsRoom))) ≡ judgedMerged one two accountsRoom shortsRoom
       by-both (refused m) w k = absurd (never m T k)
       by-both (value t) (refused m) k = absurd (never m T k)
       by-both (value t) (value u) k = refl

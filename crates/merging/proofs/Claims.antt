@@ -8,7 +8,7 @@ use Rattle.series.specs.Results.{Result, refused, value, after}
 use Rattle.series.specs.Outputs.{onto}
 use Rattle.series.specs.Places.{total}
 use Rattle.series.specs.Refusals.{first, standsIn, without, lengthRows, roomRows, accountRefused, positionRows, listRows, listVerdict}
-use Rattle.merging.specs.Merging.{PositionList, listOf, paired, accountsOf, shortsOf, merged, mergedRows, mergedInto, mergeInto, Handed, handed}
+use Rattle.merging.specs.Merging.{PositionList, listOf, paired, accountsOf, shortsOf, merged, mergedRows, judgedMerged, mergeInto, Handed, handed}
 
 -- a call: two lists and both outputs
 pub record Call : Type 0 where
@@ -29,7 +29,7 @@ pub record Claim : Type 0 where
   pub comes-to : Settled
 
 unfoldable pub settled : Call → Settled
-unfolding total first standsIn without lengthRows roomRows accountRefused positionRows listRows listVerdict onto paired merged mergedRows mergedInto mergeInto handed
+unfolding total first standsIn without lengthRows roomRows accountRefused positionRows listRows listVerdict onto paired merged mergedRows judgedMerged mergeInto handed
 settled c =
     let r = mergeInto (c .one) (c .two) (length (c .accounts)) (length (c .shorts)) in
     record {

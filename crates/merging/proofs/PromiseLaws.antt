@@ -14,7 +14,7 @@ use Rattle.series.specs.Refusals.{NoneApplies, listVerdict}
 use Rattle.series.specs.declared.Method.{Method}
 use Rattle.series.proofs.ResultLaws.{value-is, stepped}
 use Rattle.series.proofs.RowLaws.{value-passed}
-use Rattle.merging.specs.Merging.{Position, PositionList, listOf, paired, positions, accountsOf, shortsOf, merged, judgedAlone, mergedRows, mergedInto, mergeInto, Handed, handed, MergingCall, mergedOf}
+use Rattle.merging.specs.Merging.{Position, PositionList, listOf, paired, positions, accountsOf, shortsOf, merged, judgedAlone, mergedRows, judgedMerged, mergeInto, Handed, handed, MergingCall, mergedOf}
 use Rattle.merging.proofs.MergeLaws.{Between, heldBy, merged-held, only-list, either-order}
 use Rattle.merging.proofs.JudgeLaws.{faultless}
 use Rattle.merging.proofs.WalkLaws.{paired-accounts, paired-shorts, paired-back}
@@ -32,10 +32,10 @@ record Found (one two : PositionList) (accountsRoom shortsRoom : ℕ) : Type 0 w
   comes-to : mergeInto one two accountsRoom shortsRoom ≡ value (mergedOf one two)
 
 found : (one two : PositionList) (accountsRoom shortsRoom : ℕ) (ms : List Position) → mergeInto one two accountsRoom shortsRoom ≡ value ms → Found one two accountsRoom shortsRoom
-unfolding mergeInto mergedInto mergedRows NoneApplies
+unfolding mergeInto judgedMerged mergedRows NoneApplies
 found one two accountsRoom shortsRoom ms e =
-    let s = stepped (judgedAlone one) (λ T. judgedAlone two >>= (λ U. mergedInto one two accountsRoom shortsRoom)) ms e in
-    let t = stepped (judgedAlone two) (λ U. mergedInto one two accountsRoom shortsRoom) ms (s .on) in
+    let s = stepped (judgedAlone one) (λ T. judgedAlone two >>= (λ U. judgedMerged one two accountsRoom shortsRoom)) ms e in
+    let t = stepped (judgedAlone two) (λ U. judgedMerged one two accountsRoom shortsRoom) ms (s .on) in
     let none = value-passed (mergedRows (mergedOf one two) accountsRoom shortsRoom) (mergedOf one two) ms (t .on) in
     record {
       first-total = s .from;
@@ -120,7 +120,7 @@ module _ (one two : PositionList) (h : Handed) (accounts shorts : Lent (List ℕ
 
 -- where neither list has a fault, the order of the two does not matter: answer and outputs are the same
 pub either-way : (one two : PositionList) (T U accountsRoom shortsRoom : ℕ) → judgedAlone one ≡ value T → judgedAlone two ≡ value U → mergeInto one two accountsRoom shortsRoom ≡ mergeInto two one accountsRoom shortsRoom
-unfolding mergeInto mergedInto
+unfolding mergeInto judgedMerged
 either-way one two T U accountsRoom shortsRoom e g =
     let same : mergedOf one two ≡ mergedOf two one = either-order (positions one) (positions two) 0 (faultless-rises one T e) (faultless-rises two U g) in
     rw (e, g, same) refl

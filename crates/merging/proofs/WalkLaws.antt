@@ -10,7 +10,6 @@ use lib.ListN.{length, getD, set, take, drop, length-append, length-drop, length
 use lib.Seq.{sets, sets-eq, length-sets, take-suc, drop-cons, drop-drop, getD-drop, length-take-le}
 use borrow.Author.Tests.{lt-ltb, le-ltb}
 use Rattle.series.specs.Outputs.{onto}
-use Rattle.series.specs.Places.{total}
 use Rattle.merging.specs.Merging.{Position, paired, positions, accountsOf, shortsOf, added, merged}
 
 -- what stands past the last position
@@ -22,12 +21,11 @@ none = record { account = 0; shorts = 0 }
 pub record Walked (ps qs : List Position) (i j n : ℕ) : Type 0 where
   pub on-first : i ≤ length ps
   pub on-second : j ≤ length qs
-  pub passed : n ≤ i + j
   pub rest : drop n (merged ps qs) ≡ merged (drop i ps) (drop j qs)
   pub counted : n + length (merged (drop i ps) (drop j qs)) ≡ length (merged ps qs)
 
 pub walked-start : (ps qs : List Position) → Walked ps qs 0 0 0
-walked-start ps qs = record { on-first = omega arith; on-second = omega arith; passed = omega arith; rest = refl; counted = zero-add (length (merged ps qs)) }
+walked-start ps qs = record { on-first = omega arith; on-second = omega arith; rest = refl; counted = zero-add (length (merged ps qs)) }
 
 -- the account of position i
 pub account-at : (ps : List Position) (accounts : List ℕ) (i : ℕ) → accountsOf ps ≡ accounts → getD accounts i 0 ≡ getD ps i none .account
@@ -45,7 +43,6 @@ accounts-long ps accounts e = sym (length-map ps (λ p. p .account)) ∙ ap leng
 pub record Step (ps qs : List Position) (i j k l : ℕ) (m : Position) : Type 0 where
   pub on-first : k ≤ length ps
   pub on-second : l ≤ length qs
-  pub farther : i + j < k + l
   pub next : merged (drop i ps) (drop j qs) ≡ m ∷ merged (drop k ps) (drop l qs)
 
 -- the three cases of the definition
@@ -66,7 +63,6 @@ module _ (ps qs : List Position) (i j : ℕ) (h : i < length ps) (k : j < length
       record {
         on-first = omega arith;
         on-second = omega arith;
-        farther = omega arith;
         next = rw (add-one i) (from-here ∙ rw (lt-ltb (p .account) (q .account) lt, drop-cons qs j none k) refl);
       }
 
@@ -76,7 +72,6 @@ module _ (ps qs : List Position) (i j : ℕ) (h : i < length ps) (k : j < length
       record {
         on-first = omega arith;
         on-second = omega arith;
-        farther = omega arith;
         next = rw (add-one j) (from-here ∙ rw (le-ltb (p .account) (q .account) (omega arith), lt-ltb (q .account) (p .account) lt, drop-cons ps i none h) refl);
       }
 
@@ -86,7 +81,6 @@ module _ (ps qs : List Position) (i j : ℕ) (h : i < length ps) (k : j < length
       record {
         on-first = omega arith;
         on-second = omega arith;
-        farther = omega arith;
         next = rw (add-one i, add-one j) (from-here ∙ rw (le-ltb (p .account) (q .account) (omega arith), le-ltb (q .account) (p .account) (omega arith)) refl);
       }
 
@@ -106,7 +100,6 @@ module _ (ps qs : List Position) (i j n : ℕ) (w : Walked ps qs i j n) where
         record {
           on-first = s .on-first;
           on-second = s .on-second;
-          passed = omega (arith, w .passed, s .farther);
           rest = sym (drop-drop 1 n (merged ps qs)) ∙ ap (drop 1) (w .rest ∙ s .next);
           counted = omega (arith, w .counted, ap length (s .next));
         }
@@ -191,18 +184,7 @@ unfolding paired
 paired-back [] = refl
 paired-back (p ∷ ps) = ap (p ∷_) (paired-back ps)
 
-pub map-append : (f : Position → ℕ) (xs ys : List Position) → map f (xs ++ ys) ≡ map f xs ++ map f ys
-map-append f [] ys = refl
-map-append f (x ∷ xs) ys = ap (f x ∷_) (map-append f xs ys)
-
 pub map-drop : (f : Position → ℕ) (i : ℕ) (ps : List Position) → map f (drop i ps) ≡ drop i (map f ps)
 map-drop f zero ps = refl
 map-drop f (suc i) [] = refl
 map-drop f (suc i) (p ∷ ps) = map-drop f i ps
-
--- no position has more than all together
-pub at-most-total : (hs : List ℕ) (i : ℕ) → getD hs i 0 ≤ total hs
-unfolding total
-at-most-total [] i = omega arith
-at-most-total (h ∷ hs) zero = omega arith
-at-most-total (h ∷ hs) (suc i) = omega (arith, at-most-total hs i)

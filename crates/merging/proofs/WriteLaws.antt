@@ -2,7 +2,7 @@
 use Prim.Native.Nat.{ℕ, _+_, _-_, _≤_, _<_}
 use mathlib.Core.Path.{_≡_, refl, sym, ap, ap₂, _∙_}
 use mathlib.Core.Logic.{_⊎_, inl, inr, ⊎-elim}
-use mathlib.Core.List.{List, map, _++_}
+use mathlib.Core.List.{List, map, _++_, map-append}
 use native.Mathlib.Omega.{arith}
 use native.Mathlib.Nat.{zero-add}
 use lib.ListN.{length, getD, set, drop, length-drop, length-map, List·getD-map}
@@ -10,10 +10,11 @@ use lib.Seq.{sets, length-sets}
 use Rattle.series.specs.Results.{value}
 use Rattle.series.specs.Outputs.{onto, Lent, lent}
 use Rattle.series.specs.Series.{MOST_CONTRACTS}
+use Rattle.series.proofs.SumLaws.{total-term}
 use Rattle.merging.specs.Merging.{Position, PositionList, positions, accountsOf, shortsOf, added, merged, ListsMerged, mergedOf}
 use Rattle.merging.specs.Walks.{Fitting, FittingFrom, PutFrom}
 use Rattle.merging.proofs.MergeLaws.{merged-length}
-use Rattle.merging.proofs.WalkLaws.{none, Walked, walked-start, account-at, accounts-long, shorts-at, Step, step-first, step-second, step-both, more, walked-at, walked-next, walked-end, walked-count, Written, written-length, written-next, written-all, paired-accounts, paired-shorts, map-append, map-drop, at-most-total}
+use Rattle.merging.proofs.WalkLaws.{none, Walked, walked-start, account-at, accounts-long, shorts-at, Step, step-first, step-second, step-both, more, walked-at, walked-next, walked-end, walked-count, Written, written-length, written-next, written-all, paired-accounts, paired-shorts, map-drop}
 
 -- the outputs keep their lengths
 pub put-length : (l : PositionList) (begin at : ℕ) (accounts shorts : Lent (List ℕ)) → PutFrom l begin at accounts shorts → (length (accounts .new) ≡ length (accounts .old)) × (length (shorts .new) ≡ length (shorts .old))
@@ -111,9 +112,12 @@ module _ (one two : PositionList) (accounts₀ shorts₀ : List ℕ) where
       writes-both is =
           writes-step (i + 1) (j + 1) (added p q) (step-both (positions one) (positions two) i j first-has second-has (omega (arith, first-is, second-is))) _ _ (first-is .0) (ap₂ _+_ (first-is .1) (second-is .1))
 
-    -- the sum of two positions' shorts is small
-    pub sum-small : getD (one .shorts) i 0 + getD (two .shorts) j 0 ≤ MOST_CONTRACTS + MOST_CONTRACTS
-    sum-small = omega (arith, at-most-total (one .shorts) i, at-most-total (two .shorts) j, fit .bounded-one .small, fit .bounded-two .small)
+      -- the sum of both positions' shorts is small
+      pub sum-small : getD (one .shorts) i 0 + getD (two .shorts) j 0 ≤ MOST_CONTRACTS + MOST_CONTRACTS
+      sum-small =
+          let b = fit .bounded-one in
+          let d = fit .bounded-two in
+          omega (arith, total-term (one .shorts) i (omega (arith, b .even)), total-term (two .shorts) j (omega (arith, d .even)), b .small, d .small)
 
     -- ---- one list is passed
 

@@ -75,16 +75,16 @@ mergedRows ps accountsRoom shortsRoom =
     (ltb accountsRoom (length ps) || ltb shortsRoom (length ps)) ⟶ 4 ∣
     []
 
--- where neither has a fault: the merged list, into outputs of these lengths
-unfoldable pub mergedInto : PositionList → PositionList → ℕ → ℕ → Result (List Position)
-mergedInto one two accountsRoom shortsRoom = first (mergedRows (mergedOf one two) accountsRoom shortsRoom) (mergedOf one two)
+-- judging the merged list, also against outputs of these lengths
+unfoldable pub judgedMerged : PositionList → PositionList → ℕ → ℕ → Result (List Position)
+judgedMerged one two accountsRoom shortsRoom = first (mergedRows (mergedOf one two) accountsRoom shortsRoom) (mergedOf one two)
 
 -- merging two lists into outputs of these lengths: the first list's refusal, then the second's, then the merged list's
 unfoldable pub mergeInto : PositionList → PositionList → ℕ → ℕ → Result (List Position)
 mergeInto one two accountsRoom shortsRoom = do
   T ← judgedAlone one
   U ← judgedAlone two
-  mergedInto one two accountsRoom shortsRoom
+  judgedMerged one two accountsRoom shortsRoom
 
 -- what a call hands back: the number of positions of the merged list, and its T
 pub record Handed : Type 0 where

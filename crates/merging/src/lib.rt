@@ -13,7 +13,7 @@ ghost use Rattle.series.specs.Places.{total as total·};
 ghost use Rattle.series.specs.Series.{MOST_POSITIONS};
 ghost use Rattle.series.specs.Refusals.{first as first·};
 ghost use Rattle.rising_lists.specs.Judged.{judgedOf};
-ghost use Rattle.merging.specs.Merging.{Position, listOf, accountsOf, shortsOf, merged, mergedOf, judgedAlone, mergedRows, handed, mergedInto, mergingOf, ListsMerged, Merges, MergingCall};
+ghost use Rattle.merging.specs.Merging.{Position, listOf, accountsOf, shortsOf, merged, mergedOf, judgedAlone, mergedRows, handed, judgedMerged, mergingOf, ListsMerged, Merges, MergingCall};
 ghost use Rattle.merging.specs.Walks.{judgedBoth, BothBounded, Fitting, FittingFrom, PutFrom};
 
 // What merging answers: the number of positions of the merged list and its T, or a refusal.
@@ -175,7 +175,7 @@ fn merge_judged(
     shorts: &mut [u32],
 ) -> Merging
     requires { ⌜ BothBounded (listOf (now «first_accounts») (now «first_shorts»)) (listOf (now «second_accounts») (now «second_shorts»)) (total .0) ⌝ }
-    ensures { λ r. ⌜ Merges (mergedInto (listOf (now («first_accounts» .entry)) (now («first_shorts» .entry))) (listOf (now («second_accounts» .entry)) (now («second_shorts» .entry))) (length (now (accounts .entry))) (length (now (shorts .entry))))
+    ensures { λ r. ⌜ Merges (judgedMerged (listOf (now («first_accounts» .entry)) (now («first_shorts» .entry))) (listOf (now («second_accounts» .entry)) (now («second_shorts» .entry))) (length (now (accounts .entry))) (length (now (shorts .entry))))
         (mergingOf r) (lent (now (accounts .entry)) (now (accounts .exit))) (lent (now (shorts .entry)) (now (shorts .exit))) ⌝ }
 {
     let positions = count_merged(first_accounts, second_accounts);

@@ -4,7 +4,7 @@ use mathlib.Core.List.{List}
 use lib.ListN.{length}
 use Rattle.series.specs.Results.{Result}
 use Rattle.series.specs.Outputs.{lent}
-use Rattle.merging.specs.Merging.{Position, PositionList, listOf, positions, mergedInto, handed, mergingOf, ListsMerged, mergedOf}
+use Rattle.merging.specs.Merging.{Position, PositionList, listOf, positions, judgedMerged, handed, mergingOf, ListsMerged, mergedOf}
 use Rattle.merging.proofs.WalkLaws.{paired-accounts}
 use Rattle.merging.proofs.CallLaws.{whole-total, Passed, passed, handed-from, refused-kept}
 use borrow.Author.Needs.{needs}
@@ -23,11 +23,11 @@ two c = listOf (started c .args .second-accounts .now) (started c .args .second-
 
 -- what the call comes to
 abbrev outcome : tie.After-judge-merged → Result (List Position)
-outcome c = mergedInto (one c) (two c) (length (started c .args .accounts .now)) (length (started c .args .shorts .now))
+outcome c = judgedMerged (one c) (two c) (length (started c .args .accounts .now)) (length (started c .args .shorts .now))
 
 -- the answer is the merged list's
 answered : (c : tie.After-judge-merged) → mergingOf (c .judge-merged .result) ≡ handed (outcome c)
-unfolding mergedInto
+unfolding judgedMerged
 answered c =
     let p = started c .pre in
     c .judge-merged .ensures (mergedOf (one c) (two c))

@@ -231,9 +231,10 @@ shared-slice-read-shorts-4 c = turn (c .before .before .before .before .before .
 add-shorts : tie.Need-add-shorts Inv-loop μ-loop
 add-shorts c =
     let here = c .before .before .before .before .before .before in
+    let t = turn here in
     let walk = here .before .before in
     let l = walk .loop in
-    omega (arith, sum-small (one walk) (two walk) (started walk .args .accounts .now) (started walk .args .shorts .now) (started walk .pre) (l .accounts) (l .shorts) (l .i) (l .j) (l .n) (l .inv))
+    omega (arith, sum-small (one walk) (two walk) (started walk .args .accounts .now) (started walk .args .shorts .now) (started walk .pre) (l .accounts) (l .shorts) (l .i) (l .j) (l .n) (l .inv) (t .first-account) (t .second-account))
 
 mul-shorts-7 : tie.Need-mul-shorts-7 Inv-loop μ-loop
 mul-shorts-7 c = omega (arith, turn (c .before .before .before .before .before .before))
