@@ -123,14 +123,14 @@ module _ (s : Series) (room T : ℕ) (v : verdict s room ≡ value T) where
       ]
 
   -- p is a place on the wheel where a starting place is needed
-  abbrev Drawn : ℕ → Type 0
+  abbrev pub Drawn : ℕ → Type 0
   Drawn p = unstarted (held s) (length (s .shorts)) (exercised s) ≡ false → OnWheel (held s) p
 
-  lottery-drawn : method s ≡ Method.Lottery → Drawn (startingPlace (held s) (draw s))
+  pub lottery-drawn : method s ≡ Method.Lottery → Drawn (startingPlace (held s) (draw s))
   lottery-drawn e needed =
       starting-on (held s) (draw s) (some-total s room ok) (lottery-draw (s .terms) (held s) e (lottery-judged (s .terms) (held s) (length (s .shorts)) e needed (draw-passes s room T v)))
 
-  remainder-drawn : Drawn (remainderPlace (held s) (draw s))
+  pub remainder-drawn : Drawn (remainderPlace (held s) (draw s))
   remainder-drawn needed = remainder-on (held s) (draw s) (some-total s room ok)
 
   -- so is one that starts at such a place
@@ -179,7 +179,7 @@ module _ (s : Series) (room T : ℕ) (v : verdict s room ≡ value T) where
         near = λ e. absurd (other e);
       }
 
-  assigned-fair : Fair s (assigned (s .terms) (s .shorts))
+  pub assigned-fair : Fair s (assigned (s .terms) (s .shorts))
   unfolding assigned
   assigned-fair = by-cases (method s) refl
     where

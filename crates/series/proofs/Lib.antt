@@ -9,6 +9,8 @@ pub mod CodeLaws
 pub mod Coded
 pub mod Increments
 pub mod Exhibit
+pub mod SubAccounts
+pub mod SplitClaims
 pub mod RangeLaws
 pub mod CutOffLaws
 pub mod DrawUnused
@@ -19,6 +21,7 @@ pub mod ListLaws
 pub mod PlaceLaws
 pub mod WheelLaws
 pub mod BlockLimit
+pub mod SplitLaws
 pub mod IncrementLaws
 pub mod LotteryLaws
 pub mod RemainderLaws

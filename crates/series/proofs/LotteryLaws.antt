@@ -54,7 +54,7 @@ length-lottery-amounts hs S p = by-cases (eqb S (total hs)) (eqb (length hs) 1) 
 pub lottery-whole : (hs : List ℕ) (S p : ℕ) → S ≡ total hs → OnWheel (total hs) p → lottery hs S p ≡ hs
 lottery-whole hs S p e on = all-of (lottery hs S p) hs (length-lottery hs S p) (lottery-sum hs S p on ∙ e) (lottery-most hs S p (omega arith) on)
 
-one-element : (vs : List ℕ) (S : ℕ) → length vs ≡ 1 → total vs ≡ S → vs ≡ S ∷ []
+pub one-element : (vs : List ℕ) (S : ℕ) → length vs ≡ 1 → total vs ≡ S → vs ≡ S ∷ []
 unfolding total
 one-element [] S l e = absurd (omega arith)
 one-element (v ∷ []) S l e = let same : v ≡ S = omega arith in ap (_∷ []) same

@@ -62,6 +62,11 @@ unfolding listed
 listed-cong f g zero h = refl
 listed-cong f g (suc n) h = ap₂ (λ l x. l ++ (x ∷ [])) (listed-cong f g n (λ i l. h i (omega arith))) (h n (le-refl (suc n)))
 
+pub listed-head : {A : Type 0} (f : ℕ → A) (n : ℕ) → listed f (suc n) ≡ f 0 ∷ listed (λ i. f (suc i)) n
+unfolding listed
+listed-head f zero = refl
+listed-head f (suc n) = ap (λ (l : List _). l ++ (f (suc n) ∷ [])) (listed-head f n)
+
 pub total-append : (xs ys : List ℕ) → total (xs ++ ys) ≡ total xs + total ys
 unfolding total
 total-append [] ys = omega arith

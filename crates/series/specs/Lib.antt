@@ -1,4 +1,4 @@
--- Document 01 as definitions, in its order: words and places, a series, the wheel, pro rata (with document 02's cut-off), the starting number, document 02's remainder draw, the refusals, the call.
+-- Document 01 as definitions, in its order: words and places, a series, the wheel, pro rata (with document 02's cut-off), the starting number, document 02's remainder draw, the refusals, the call, and document 02's sub-accounts.
 pub mod Ascii
 pub mod Results
 pub mod Outputs
@@ -14,3 +14,4 @@ pub mod Refusals
 pub mod Answers
 pub mod Call
 pub mod Fair
+pub mod SubAccounts

@@ -7,7 +7,7 @@ use native.Mathlib.Numerals.{add-one}
 use lib.ListN.{length, getD, take, set, length-append, List·getD-append, List·getD-map}
 use lib.Seq.{getD-at, length-take-le, take-suc-set}
 use Rattle.series.specs.Sums.{listed}
-use Rattle.series.proofs.SumLaws.{length-listed, listed-cong}
+use Rattle.series.proofs.SumLaws.{length-listed, listed-cong, listed-head}
 use Rattle.text_rules.specs.Rows.{rowOf, rowsOf, column}
 
 -- as many rows as the first column has numbers
@@ -21,11 +21,6 @@ map-listed : {A B : Type 0} (f : A → B) (g : ℕ → A) (n : ℕ) → map f (l
 unfolding listed
 map-listed f g zero = refl
 map-listed f g (suc n) = map-append f (listed g n) (g n ∷ []) ∙ ap (λ l. l ++ (f (g n) ∷ [])) (map-listed f g n)
-
-listed-head : {A : Type 0} (f : ℕ → A) (n : ℕ) → listed f (suc n) ≡ f 0 ∷ listed (λ i. f (suc i)) n
-unfolding listed
-listed-head f zero = refl
-listed-head f (suc n) = ap (λ (l : List _). l ++ (f (suc n) ∷ [])) (listed-head f n)
 
 -- a list is its elements, one by one
 pub listed-all : {A : Type 0} (d : A) (xs : List A) → listed (λ i. getD xs i d) (length xs) ≡ xs
