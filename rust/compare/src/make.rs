@@ -255,6 +255,17 @@ pub fn series(random: &mut Random, count: usize, most: u64, exact: bool) -> Seri
     Series::by_account(rising(random, count), shorts)
 }
 
+/// Shorts that stand in the place of one position and add up to its shorts: one to `most` of them.
+pub fn parts(random: &mut Random, short: u32, most: usize) -> Vec<u32> {
+    let most = most.min(short as usize);
+    let count = match random.below(8) {
+        0 => 1,
+        1 => most,
+        _ => most.min(1 + random.spread(most as u64) as usize),
+    };
+    series(random, count, u64::from(short), true).numbers
+}
+
 /// The lists whose shorts add up to `total`, each cut or not after each contract.
 pub fn lists(total: u32) -> Vec<Series> {
     (0..1u32 << (total - 1))

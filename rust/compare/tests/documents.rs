@@ -1,6 +1,6 @@
-// What README.md and docs/GUIDE.md say: each command, README's table of methods, the guide's blocks of the wheel, how the
-// programs end, and the files that the documents name. The outputs of the guide's examples are in examples.rs, its table
-// of refusals in words.rs.
+// What README.md and docs/GUIDE.md say: each command, README's tables, the guide's blocks of the wheel and its split
+// account, how the programs end, and the files that the documents name. The outputs of the guide's examples are in
+// examples.rs, its table of refusals in words.rs.
 
 use std::collections::BTreeSet;
 use std::fs;
@@ -166,6 +166,21 @@ fn the_lists_of_two_branches() {
     }
 }
 
+// README's accounts before and after a split are those of the two examples.
+#[test]
+fn the_sub_accounts_of_the_readme() {
+    let rows = rows(README, "| Accounts | Assigned |");
+    assert_eq!(rows.len(), 2);
+    for (row, name) in rows.iter().zip(["account", "sub-accounts"]) {
+        let list = reference::read_text(example(&format!("{name}.txt")).as_bytes()).unwrap();
+        let printed = example(&format!("{name}.out"));
+        let amounts = printed.lines().skip(1).map(|line| line.split_once(',').unwrap().1);
+        let assigned: Vec<String> =
+            amounts.zip(&list.numbers).map(|(amount, short)| format!("{amount} of {short}")).collect();
+        assert_eq!((numbers(row[0]), row[1]), (list.accounts, &assigned.join(", ")[..]), "{name}");
+    }
+}
+
 fn numbers(words: &str) -> Vec<u32> {
     words.split(", ").map(|word| word.parse().expect(words)).collect()
 }
@@ -250,6 +265,20 @@ fn starting_places_are_rounded_up() {
     for (total, exact, place) in [(36, "0.4855 × 36 is 17.478", 18), (40, "0.4855 × 40 is 19.42", 20)] {
         assert!(GUIDE.contains(exact), "{exact}");
         assert_eq!(reference::starting_place(total, 4855), place);
+    }
+}
+
+// The guide's case of an account that is split under P.
+#[test]
+fn the_split_account_of_the_guide() {
+    let rows = rows(GUIDE, "| Shorts | Amounts |");
+    assert_eq!(rows.len(), 2);
+    for row in rows {
+        let shorts = numbers(row[0]);
+        let accounts: Vec<u32> = (1..).take(shorts.len()).collect();
+        let list = reference::List::by_account(&accounts, &shorts);
+        let found = reference::allocate(reference::Terms::new(b'P', 2, 0), list, shorts.len()).unwrap();
+        assert_eq!(found.amounts, numbers(row[1]));
     }
 }
 

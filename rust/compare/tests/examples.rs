@@ -74,6 +74,8 @@ fn every_example_prints_what_is_stored_and_shown() {
         "last-numbers",
         "whole",
         "codes",
+        "account",
+        "sub-accounts",
         "after-day",
         "refused",
     ];
@@ -143,6 +145,24 @@ fn the_exhibit() {
     for (line, expected) in [(1, "1,0"), (7, "7,50"), (10, "10,0"), (18, "7,156,1155,1342,2341")] {
         assert_eq!(lines[line], expected);
     }
+}
+
+// An account before it is split and its sub-accounts after: the others keep their amounts, and the sub-accounts together
+// get what the account got.
+#[test]
+fn sub_accounts_change_nothing_for_others() {
+    let [before, after] =
+        ["account.txt", "sub-accounts.txt"].map(|name| reference::read_text(file(name).as_bytes()).unwrap());
+    assert_eq!(before.terms, Terms::new(b'W', 175, 1));
+    assert_eq!((&before.accounts[..], &before.numbers[..]), (&[10, 20, 30][..], &[60, 200, 95][..]));
+    assert_eq!(after.terms, before.terms);
+    assert_eq!((&after.accounts[..], &after.numbers[..]), (&[10, 21, 22, 23, 30][..], &[60, 120, 50, 30, 95][..]));
+    let [before, after] = ["account.out", "sub-accounts.out"].map(|name| {
+        let amount = |line: &str| line.split_once(',').unwrap().1.parse::<u32>().unwrap();
+        file(name).lines().skip(1).map(amount).collect::<Vec<_>>()
+    });
+    assert_eq!(before, [35, 97, 43]);
+    assert_eq!([after[0], after[1] + after[2] + after[3], after[4]], before[..]);
 }
 
 // One example has its positions in another order than that of their accounts.
