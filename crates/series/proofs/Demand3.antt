@@ -2,8 +2,8 @@
 -- T is held s, S is exercised s, and i is any position of the list.
 use Prim.Native.Nat.{ℕ, suc, _*_, _≤_, _<_}
 use mathlib.Core.Path.{_≡_, refl, sym, ap, _∙_}
-use mathlib.Core.Bool.{Bool, true, false, cond}
-use mathlib.Core.Option.{none, some}
+use mathlib.Core.Bool.{Bool, true, false}
+use mathlib.Core.Option.{some}
 use mathlib.Core.List.{List}
 use native.Mathlib.Omega.{arith}
 use native.Mathlib.Decide.{ℕ-discrete}
@@ -28,7 +28,7 @@ use Rattle.series.proofs.CallLaws.{draw-passes, wheel-judged, lottery-j
 use Rattle.series.proofs.SumLaws.{sum-cong, length-listed}
 use Rattle.series.proofs.ProRataLaws.{pro-rata-sum, pro-rata-most, pro-rata-share}
 use Rattle.series.proofs.WheelLaws.{length-wheel, wheel-whole, wheel-sum, wheel-most, wheel-share, wheel-once}
-use Rattle.series.proofs.LotteryLaws.{length-lottery-amounts, lottery-amounts, unstarted-any, lottery-sum, lottery-most, lottery-share, lottery-once}
+use Rattle.series.proofs.LotteryLaws.{length-lottery-amounts, lottery-amounts, unstarted-any, used, lottery-sum, lottery-most, lottery-share, lottery-once}
 use Rattle.series.proofs.RemainderLaws.{remainder-on, remainder-of}
 
 module _ (s : Series) (room : ℕ) (ok : Accepted s room) where
@@ -150,12 +150,7 @@ module _ (s : Series) (room T : ℕ) (v : verdict s room ≡ value T) where
   remainder-from = run-from (remainderPlace (held s) (draw s)) remainder-drawn
 
   used-on-wheel : (q : ℕ) → Drawn q → (p : ℕ) → startUsed (s .shorts) (exercised s) q ≡ some p → OnWheel (held s) p
-  unfolding startUsed
-  used-on-wheel q drawn p h = by-cases (unstarted (held s) (length (s .shorts)) (exercised s)) refl h
-    where
-      by-cases : (u : Bool) → unstarted (held s) (length (s .shorts)) (exercised s) ≡ u → cond u none (some q) ≡ some p → OnWheel (held s) p
-      by-cases true u k = let z : _≡_ {A = ℕ} 0 1 = cc in absurd (omega arith)
-      by-cases false u k = let same : q ≡ p = cc in rw (← same) (drawn u)
+  used-on-wheel q drawn p h = let u = used (s .shorts) (exercised s) q p h in rw (u .1) (drawn (u .0))
 
   -- L: a starting place that is handed back is a place on the wheel
   pub start-on-wheel : method s ≡ Method.Lottery → (p : ℕ) → further (s .terms) (s .shorts) ≡ some p → OnWheel (held s) p

@@ -2,6 +2,7 @@
 use Prim.Native.Nat.{ℕ, suc, _*_, _≤_, _<_}
 use mathlib.Core.Path.{_≡_, refl, sym, ap, _∙_}
 use mathlib.Core.Bool.{Bool, true, false, _||_, cond}
+use mathlib.Core.Option.{none, some}
 use mathlib.Core.List.{List, [], _∷_}
 use native.Mathlib.Omega.{arith}
 use native.Mathlib.Decide.{ℕ-discrete}
@@ -9,7 +10,7 @@ use lib.Dec.{eqb}
 use lib.ListN.{length, getD}
 use borrow.Author.Tests.{eq-eqb, ne-eqb, eqb-true}
 use Rattle.series.specs.Places.{total, steps, run, marked, amounts, OnWheel, overPlaces}
-use Rattle.series.specs.Lottery.{lottery, unstarted, lotteryAmounts}
+use Rattle.series.specs.Lottery.{lottery, unstarted, lotteryAmounts, startUsed}
 use Rattle.series.proofs.SumLaws.{all-of}
 use Rattle.series.proofs.PlaceLaws.{length-amounts, upFrom, length-upFrom, placesAt, run-places, rising-upFrom, over-cong, places-sum, places-share, places-most, places-once}
 
@@ -86,3 +87,12 @@ unstarted-any hs S u p q = by-cases (eqb S (total hs)) (eqb (length hs) 1) u
     by-cases true one h = refl
     by-cases false true h = refl
     by-cases false false h = let z : _≡_ {A = ℕ} 0 1 = cc in absurd (omega arith)
+
+-- a starting place that is handed back is needed, and is the one given
+pub used : (hs : List ℕ) (S p x : ℕ) → startUsed hs S p ≡ some x → (unstarted (total hs) (length hs) S ≡ false) × (x ≡ p)
+unfolding startUsed
+used hs S p x h = by-cases (unstarted (total hs) (length hs) S) h
+  where
+    by-cases : (u : Bool) → cond u none (some p) ≡ some x → (u ≡ false) × (x ≡ p)
+    by-cases true k = let z : _≡_ {A = ℕ} 0 1 = cc in absurd (omega arith)
+    by-cases false k = (refl, cc)

@@ -2,7 +2,7 @@
 use Prim.Native.Nat.{ℕ, _*_, _<_}
 use mathlib.Core.Path.{_≡_, refl, sym, ap, _∙_}
 use mathlib.Core.Bool.{Bool, true, false, cond}
-use mathlib.Core.Option.{none, some}
+use mathlib.Core.Option.{some}
 use mathlib.Core.List.{List, [], _∷_}
 use native.Mathlib.Omega.{arith}
 use lib.Dec.{eqb}
@@ -14,7 +14,7 @@ use Rattle.series.specs.Outputs.{onto}
 use Rattle.series.specs.Places.{total, amounts, run, OnWheel, overPlaces}
 use Rattle.series.specs.Series.{Series, method, exercised, draw, increment, held, byMethod, order}
 use Rattle.series.specs.Wheel.{wheelMarks, wheel, blocksUsed}
-use Rattle.series.specs.Lottery.{startingPlace, lottery, unstarted, lotteryAmounts, startUsed}
+use Rattle.series.specs.Lottery.{startingPlace, lottery, unstarted, lotteryAmounts}
 use Rattle.series.specs.RemainderDraw.{remainderPlace}
 use Rattle.series.specs.Refusals.{Row, first, NoneApplies, undrawn, drawRows, thenDrawRows, termsRows, listRows, rows, verdict, Accepted}
 use Rattle.series.specs.Answers.{Allocation}
@@ -28,7 +28,7 @@ use Rattle.series.proofs.RowLaws.{first-append, passed-value}
 use Rattle.series.proofs.PlaceLaws.{over-cong}
 use Rattle.series.proofs.CallLaws.{verdict-total}
 use Rattle.series.proofs.WheelLaws.{wheel-whole}
-use Rattle.series.proofs.LotteryLaws.{one-element, lottery-amounts, unstarted-any}
+use Rattle.series.proofs.LotteryLaws.{one-element, lottery-amounts, unstarted-any, used}
 use Rattle.series.proofs.SplitLaws.{split-within, split-total, others-keep, split-amounts, at-once-total, at-once-amounts}
 use Rattle.series.proofs.AcceptedLaws.{accepted-facts, verdict-accepted}
 use Rattle.series.proofs.Demand3.{wheel-shares, lottery-shares, length-assigned, Drawn, lottery-drawn, remainder-drawn, assigned-fair}
@@ -119,15 +119,6 @@ wrote s a old new call =
           rw (call .written, step .step) (take-at vs (drop (length vs) old) (length (s .shorts)) (length-assigned (s .terms) (s .shorts)));
     }
 
--- a starting place that is handed back is the one given
-used-is : (hs : List ℕ) (S p x : ℕ) → startUsed hs S p ≡ some x → x ≡ p
-unfolding startUsed
-used-is hs S p x h = by-cases (unstarted (total hs) (length hs) S) h
-  where
-    by-cases : (u : Bool) → cond u none (some p) ≡ some x → x ≡ p
-    by-cases true k = let z : _≡_ {A = ℕ} 0 1 = cc in absurd (omega arith)
-    by-cases false k = cc
-
 -- the further number of W, L and R, where one is handed back, by T alone
 abbrev furtherAt : Terms → ℕ → ℕ
 furtherAt t T = byMethod (t .method) (blocksUsed (t .increment .0) T (t .exercised .0)) 0 (startingPlace T (t .draw)) (remainderPlace T (t .draw))
@@ -139,8 +130,8 @@ further-is t hs x rule h = by-cases (t .method) refl
     by-cases : (m : Method) → t .method ≡ m → x ≡ furtherAt t (total hs)
     by-cases Method.Wheel e = let k = rw e at h in rw e cc
     by-cases Method.ProRata e = absurd (not-pro-rata t rule e)
-    by-cases Method.Lottery e = rw e (used-is hs (t .exercised .0) (startingPlace (total hs) (t .draw)) x (rw e at h))
-    by-cases Method.RemainderDraw e = rw e (used-is hs (t .exercised .0) (remainderPlace (total hs) (t .draw)) x (rw e at h))
+    by-cases Method.Lottery e = rw e (used hs (t .exercised .0) (startingPlace (total hs) (t .draw)) x (rw e at h) .1)
+    by-cases Method.RemainderDraw e = rw e (used hs (t .exercised .0) (remainderPlace (total hs) (t .draw)) x (rw e at h) .1)
 
 -- two calls that allocate, with equal terms, by a method with the rule
 module _ (s r : Series) (a b : Allocation) (old new old′ new′ : List ℕ) (call : AllocatingCall s (value a) old new) (call′ : AllocatingCall r (value b) old′ new′) (terms : r .terms ≡ s .terms) (rule : byPlaces (method s) ≡ true) where
