@@ -10,7 +10,7 @@ use Rattle.series.specs.Series.{MOST_CONTRACTS}
 use Rattle.series.specs.Places.{total, before, last, steps, run, marked, amounts}
 use Rattle.series.specs.Wheel.{ONE, blocks, interval, marks, wheel_marks, wheel, blocks_used}
 use Rattle.series.proofs.PlaceLaws.{marked_append, marked-length}
-use Rattle.series.proofs.WheelLaws.{BlockSum as BlockCount, blocks_are, interval-short, length-wheel_marks, wheel-places, wheel_part}
+use Rattle.series.proofs.WheelLaws.{BlockSum as BlockCount, blocks_are, interval-short, length-wheel_marks, wheel_places, wheel_part}
 use Rattle.judging.specs.Judged.{JudgedSeries}
 use Rattle.allocation.specs.declared.places.Cursor.{Cursor}
 use Rattle.allocation.specs.declared.wheel.Wheel.{Wheel}
@@ -144,7 +144,7 @@ module _ (hs out cleared : List ℕ) (w : Wheel) (T S p I b l : ℕ) (judged : J
 
   pub blocks_give : (new : List ℕ) → Assigned hs cleared new (marks_from hs w b I l) → new ≡ wheel I hs S p
   blocks_give new a =
-      assigned-amounts hs out new (wheel_marks I (total hs) S p) judged.room (rw (marks-first, ec) at a) ∙ ap (amounts hs) (wheel-places I (total hs) S p) ∙ sym (wheel_part I hs S p part)
+      assigned-amounts hs out new (wheel_marks I (total hs) S p) judged.room (rw (marks-first, ec) at a) ∙ ap (amounts hs) (wheel_places I (total hs) S p) ∙ sym (wheel_part I hs S p part)
 
 pub used_whole : (I T S : ℕ) → S ≡ T → 0 ≡ blocks_used I T S
 unfolding blocks_used

@@ -26,7 +26,7 @@ line_within (l ∷ ls) other all o (suc n) = line_within ls other all.1 o n
 pub explanation-within : (n : ℕ) → length (explanation n) ≤ LONGEST
 unfolding explanation refusals no_refusal ascii
 explanation-within zero = omega arith
-explanation-within (suc n) = line_within refusals no_refusal (refl, (refl, (refl, (refl, (refl, (refl, (refl, (refl, (refl, (refl, (refl, (refl, (refl, (refl, (refl, (refl, (refl, (refl, (refl, (refl, (refl, (refl, (refl, (refl, (refl, (refl, (refl, tt))))))))))))))))))))))))))) (omega arith) n
+explanation-within (suc n) = line_within refusals no_refusal (refl, (refl, (refl, (refl, (refl, (refl, (refl, (refl, (refl, (refl, (refl, (refl, (refl, (refl, (refl, (refl, (refl, (refl, (refl, (refl, (refl, (refl, (refl, (refl, tt)))))))))))))))))))))))) (omega arith) n
 
 -- ---- the numbers that are no refusal's
 
@@ -39,11 +39,11 @@ above : (k n : ℕ) → Misses k (suc n) → k ≤ n
 above zero n m = omega arith
 above (suc k) n m = omega (arith, above k n m.0, m.1)
 
--- a number that is none of 1 to 27 is no refusal's
-pub no_refusal_lem : (n : ℕ) → Misses 27 n → explanation n ≡ no_refusal
+-- a number that is none of 1 to 24 is no refusal's
+pub no_refusal_lem : (n : ℕ) → Misses 24 n → explanation n ≡ no_refusal
 unfolding explanation refusals
 no_refusal_lem zero m = refl
-no_refusal_lem (suc n) m = get_or-eq_default refusals no_refusal (above 27 n m)
+no_refusal_lem (suc n) m = get_or-eq_default refusals no_refusal (above 24 n m)
 
 -- ---- what the calls promise
 

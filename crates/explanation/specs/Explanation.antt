@@ -6,7 +6,7 @@ use Rattle.series.specs.Ascii.{ascii}
 unfoldable pub no_refusal : List ℕ
 no_refusal = ascii "no refusal has this number\n"
 
--- the lines of the refusals 1 to 27
+-- the lines of the refusals 1 to 24
 unfoldable pub refusals : List (List ℕ)
 refusals =
     ascii "codes, accounts and numbers differ in length\n" ∷
@@ -32,10 +32,7 @@ refusals =
     ascii "there are more than 64 jobs\n" ∷
     ascii "a stretch ends past the list or begins too early\n" ∷
     ascii "the increment is 0 or above 1,000 (W)\n" ∷
-    ascii "the increment makes more than 1,000,000 blocks\n" ∷
-    ascii "no place or code is left to open the account\n" ∷
-    ascii "the memory is not a sound book\n" ∷
-    ascii "more is taken off than the account holds\n" ∷ []
+    ascii "the increment makes more than 1,000,000 blocks\n" ∷ []
 
 -- the line of a number
 unfoldable pub explanation : ℕ → List ℕ

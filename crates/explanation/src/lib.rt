@@ -48,9 +48,6 @@ pub fn explain(number: u32, line: &mut [u8]) -> usize
         22 => put(b"a stretch ends past the list or begins too early\n", line),
         23 => put(b"the increment is 0 or above 1,000 (W)\n", line),
         24 => put(b"the increment makes more than 1,000,000 blocks\n", line),
-        25 => put(b"no place or code is left to open the account\n", line),
-        26 => put(b"the memory is not a sound book\n", line),
-        27 => put(b"more is taken off than the account holds\n", line),
         _ => put(b"no refusal has this number\n", line),
     }
 }

@@ -278,10 +278,10 @@ module _ (accounts shorts : List ℕ) (js : List Job) (old : List ℕ) (room : l
     stretch_alone = stretches_alone accounts shorts js old k all_within each_apart here
 
     -- a job that is refused keeps its stretch, and of its record all but the number
-    pub refused-kept : (n : ℕ) → job_answer job (stretch job accounts) (stretch job shorts) job.positions ≡ refused n
+    pub refused_kept : (n : ℕ) → job_answer job (stretch job accounts) (stretch job shorts) job.positions ≡ refused n
         → (stretch job (output_after_all accounts shorts js old) ≡ stretch job old) × (get_or (records_after accounts shorts js old) k no_job ≡ with_answer job (record { refusal = n; total = job.answer.total; further = job.answer.further }))
     unfolding recorded
-    refused-kept n e =
+    refused_kept n e =
         (stretch_alone ∙ refused-writes job (stretch job accounts) (stretch job shorts) (stretch job old) n (rw (stretch-length job old (all_within k here)) e), record_alone ∙ rw e refl)
 
 -- ---- a call that is not refused before its jobs

@@ -83,7 +83,7 @@ module _ (p : Parameters) (ν : ℕ) (δ : GName) (μ : ℕ) (ε : GName) where
 
     -- what comes back with its machine value w: the tokens, a result of the type R, and the last lists, of which Said holds
     abbrev pub Back : (R : RattleType) → (R.Denot → List Job → List ℕ → Type 0) → Val → Item 𝓤
-    Back R Said w = later (some (λ (r : R.Denot). (Tokens lent_on 𝓤 ⊛ ‵ (R.own r (w ∷ [])))
+    Back R Said w = later (some (λ (r : R.Denot). (Tokens lent_on 𝓤 ⊛ ‵ (R.own_val r (w ∷ [])))
         ⊛ some (λ (ws : Last). ‵ (lasts (giving R) (κs lent_on) (a lent_on) ws) ⊛ raw (fact 𝓤 (Said r ws.1.1.0 ws.1.1.1.0)))))
 
 module _ {M : Type 1} {𝓤 : Ura M} {𝓛 : Logic 𝓤} {K : Type 0} {Γ : List (Item 𝓤)} {G : Goal 𝓤 𝓛.H} where
@@ -105,7 +105,7 @@ module _ {M : Type 1} {𝓤 : Ura M} {𝓛 : Logic 𝓤} {K : Type 0} {Γ : List
 
   -- after the call: what comes back and what is kept become its result and what is had, at the last lists
   pub takes_back : K → Soaks G → (p : Parameters) (ν : ℕ) (δ : GName) (μ : ℕ) (ε : GName) (R : RattleType) (Said : R.Denot → List Job → List ℕ → Type 0) (w : Val)
-      → ((r : R.Denot) (zs : List Job) (os : List ℕ) → length zs ≡ length p.js → length os ≡ length p.old → Said r zs os → Seq K 𝓛 (‵ (R.own r (w ∷ [])) ∷ Had p 𝓤 zs os Γ) G)
+      → ((r : R.Denot) (zs : List Job) (os : List ℕ) → length zs ≡ length p.js → length os ≡ length p.old → Said r zs os → Seq K 𝓛 (‵ (R.own_val r (w ∷ [])) ∷ Had p 𝓤 zs os Γ) G)
       → Seq K 𝓛 (Back p ν δ μ ε 𝓤 R Said w ∷ ‵ (Kept p ν δ μ ε) ∷ Γ) G
   takes_back t z p ν δ μ ε R Said w k =
       await t z $ pick t (λ r. split t $ split t $ move t (2 ∷ []) $ pick t (λ ws. split t $ move t (1 ∷ []) $ heard t (Said r ws.1.1.0 ws.1.1.1.0) (λ e.

@@ -215,11 +215,11 @@ module _ {M : Type 1} {𝓤 : Ura M} (𝓛 : Logic 𝓤) (R : RattleType) (c : C
     returns_to = (walk_of 𝓛 (giving R) stayed c).post (bound p, g)
 
     -- it follows from what is had of the parameters, at lists as long as those passed, once the result is made and what is ensured is shown
-    pub ends_with : (v : Val) (r : R.Denot) (zs : List Job) (os : List ℕ) → length zs ≡ length p.js → length os ≡ length p.old → ent 𝓤 (emp 𝓤) (sem 𝓛 (R.own r (v ∷ [])))
+    pub ends_with : (v : Val) (r : R.Denot) (zs : List Job) (os : List ℕ) → length zs ≡ length p.js → length os ≡ length p.old → ent 𝓤 (emp 𝓤) (sem 𝓛 (R.own_val r (v ∷ [])))
         → ent 𝓤 (emp 𝓤) ((c (κs p) (a p)).ensures g r (x₀ p, (x₁ p, (x₂ p zs, (x₃ p os, tt))))) → ent 𝓤 (⋆ 𝓛 (Had p 𝓤 zs os [])) (returns_to v)
     ends_with v r zs os lz lo made said =
         qed 𝓛 (Had p 𝓤 zs os []) ∵ suffices ! _ (ends_at 𝓛 (giving R) stayed c (bound p, g) v r (tt, (tt, (zs, (os, tt)))) (tt, (tt, (lz, (lo, tt))))) $
-        together ! p zs os $ use0 𝓛 (‵ (R.own r (v ∷ []))) made $ use0 𝓛 (raw ((c (κs p) (a p)).ensures g r (x₀ p, (x₁ p, (x₂ p zs, (x₃ p os, tt)))))) said $
+        together ! p zs os $ use0 𝓛 (‵ (R.own_val r (v ∷ []))) made $ use0 𝓛 (raw ((c (κs p) (a p)).ensures g r (x₀ p, (x₁ p, (x₂ p zs, (x₃ p os, tt)))))) said $
         -- [what is ensured; the result; the tokens; what is owned]
         move ! (3 ∷ 1 ∷ []) $ join ! $ move ! (2 ∷ 0 ∷ []) $ join ! $ done !
 

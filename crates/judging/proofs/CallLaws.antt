@@ -14,7 +14,7 @@ use Rattle.series.specs.Call.{further, answer, output}
 use Rattle.series.specs.Fair.{AllocatingCall}
 use Rattle.series.specs.declared.Method.{Method}
 use Rattle.series.proofs.AcceptedLaws.{IncrementFacts, Facts, accepted_facts, verdict_accepted}
-use Rattle.series.proofs.CallLaws.{verdict-total, verdict-room, draw-passes}
+use Rattle.series.proofs.CallLaws.{verdict-total, verdict-room, draw_passes}
 use Rattle.series.proofs.Demand3.{length-assigned, call_fair}
 use Rattle.judging.specs.Judged.{JudgedSeries}
 use Rattle.judging.specs.Assigning.{Assigns}
@@ -46,7 +46,7 @@ module _ (s : Series) (old : List ℕ) where
             some = facts.exercised_some;
             most = omega (arith, facts.exercised_most);
           },
-          rw (← eT) (draw-passes s (length old) T (sym v)),
+          rw (← eT) (draw_passes s (length old) T (sym v)),
         )
 
     -- under W what the judged series has of its increment

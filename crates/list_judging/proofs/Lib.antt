@@ -1,4 +1,3 @@
--- Laws of judging a list, of the chains in which it looks accounts up, and of looking up a single one.
+-- Laws of judging a list, and of the chains in which it looks accounts up.
 pub mod ChainLaws
 pub mod ListLaws
-pub mod LookUpLaws

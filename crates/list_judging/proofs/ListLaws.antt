@@ -1,7 +1,7 @@
 -- An account that is looked up, and a list that is judged alone.
-use Prim.Native.Nat.{ℕ, ◌<◌}
+use Prim.Native.Nat.{ℕ}
 use mathlib.Core.Path.{◌≡◌, sym, ap, ◌∙◌}
-use mathlib.Core.Bool.{true, false, false≢true}
+use mathlib.Core.Bool.{true}
 use mathlib.Core.List.{List, [], ◌++◌}
 use native.Mathlib.Nat.{le_refl}
 use lib.ListN.{length}
@@ -11,7 +11,7 @@ use Rattle.series.specs.Places.{total}
 use Rattle.series.specs.Series.{ordered_by}
 use Rattle.series.specs.Refusals.{Row, ◌⟶◌∣◌, first, length_rows, room_rows, stands_in, account_refused, position_rows, list_rows, list_verdict, list_verdict_for}
 use Rattle.series.specs.declared.Method.{Method}
-use Rattle.series.proofs.AcceptedLaws.{positive, list_verdict_lem}
+use Rattle.series.proofs.AcceptedLaws.{list_verdict_lem}
 use Rattle.series.proofs.RowLaws.{first-append}
 
 -- under W account 0 is refused, and any other is looked up
@@ -19,13 +19,9 @@ pub no_account : (a : ℕ) (before : List ℕ) → a ≡ 0 → account_refused M
 unfolding account_refused
 no_account a before e = rw (eq-eqb a 0 e)
 
-pub looked_up_lem : (a : ℕ) (before : List ℕ) → (a ≡ 0 → ⊥) → stands_in a before ≡ account_refused Method.Wheel before a
+pub looked_up : (a : ℕ) (before : List ℕ) → (a ≡ 0 → ⊥) → stands_in a before ≡ account_refused Method.Wheel before a
 unfolding account_refused
-looked_up_lem a before some = rw (ne_eqb a 0 some)
-
--- an account that is not refused is another than 0
-pub taken_account : (a : ℕ) (before : List ℕ) → account_refused Method.Wheel before a ≡ false → 0 < a
-taken_account a before h = positive (λ e. false≢true (sym h ∙ no_account a before e))
+looked_up a before some = rw (ne_eqb a 0 some)
 
 -- a list is judged with an output of its own length
 pub judged_list : (m : Method) (codes accounts shorts : List ℕ) (v : Result ℕ) → v ≡ list_verdict_for m (ordered_by m codes accounts) accounts shorts (length shorts) → v ≡ list_verdict m codes accounts shorts

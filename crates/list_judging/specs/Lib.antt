@@ -1,4 +1,3 @@
--- What judging a list answers, the chains in which it looks accounts up, and looking up a single one.
+-- What judging a list answers, and the chains in which it looks accounts up.
 pub mod Judged
 pub mod Chains
-pub mod LookUp

@@ -3,29 +3,13 @@ ghost use Rattle.std.specs.Prelude.{◌≡◌, suc, ◌<◌, length, get_or};
 ghost use Rattle.series.specs.Series.{MOST_POSITIONS};
 ghost use Rattle.series.specs.Refusals.{stands_in};
 ghost use Rattle.rising_lists.specs.Earlier.{earlier};
-ghost use Rattle.list_judging.specs.Chains.{bucket, Linked, OnChain, last_with};
+ghost use Rattle.list_judging.specs.Chains.{bucket, Linked};
 
 // The bucket of an account.
-pub fn bucket_of(account: u32) -> usize
-    requires { 0 < account }
+fn bucket_of(account: u32) -> usize
     ensures { (result ≡ bucket account) × (result < MOST_POSITIONS) }
 {
     (account as u64 * 2_654_435_761 % 4_294_967_296 / 1_048_576) as usize
-}
-
-// Follows a chain from a position on: one more than the position that has the account, 0 where there is none.
-pub fn follow(accounts: &[u32], next: &[u16; 4096], from: u16, account: u32) -> usize
-    requires { OnChain accounts.now next.now from account }
-    ensures { result ≡ last_with accounts.now account from }
-{
-    let mut k = from as usize;
-    while 0 < k {
-        if accounts[k - 1] == account {
-            return k;
-        }
-        k = next[k - 1] as usize;
-    }
-    0
 }
 
 // Whether the account of a position stands earlier in the list.
@@ -35,17 +19,24 @@ pub fn stands_earlier(
     head: &[u16; 4096],
     next: &[u16; 4096],
 ) -> bool
-    requires { (position < length accounts.now) × (0 < get_or accounts.now position 0) × Linked accounts.now head.now next.now position }
+    requires { (position < length accounts.now) × Linked accounts.now head.now next.now position }
     ensures { result ≡ stands_in (get_or accounts.now position 0) (earlier accounts.now position) }
 {
     let account = accounts[position];
-    let from = head[bucket_of(account)];
-    follow(accounts, next, from, account) != 0
+    let mut k = head[bucket_of(account)];
+    while 0 < k {
+        let other = k as usize - 1;
+        if accounts[other] == account {
+            return true;
+        }
+        k = next[other];
+    }
+    false
 }
 
 // Links the account of a position, after all earlier ones.
 pub fn link(accounts: &[u32], position: usize, head: &mut [u16; 4096], next: &mut [u16; 4096])
-    requires { (position < length accounts.now) × (position < MOST_POSITIONS) × (0 < get_or accounts.now position 0) × Linked accounts.now head.old next.old position }
+    requires { (position < length accounts.now) × (position < MOST_POSITIONS) × Linked accounts.now head.old next.old position }
     ensures { Linked accounts.now head.new next.new (suc position) }
 {
     let bucket = bucket_of(accounts[position]);

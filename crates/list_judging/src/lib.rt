@@ -1,16 +1,15 @@
 // Judging a list, in the order of document 01's table, with document 02's 19: T, or the first refusal that applies. While its accounts rise it is judged by the crate rising_lists, whose `Judged` and `judge_by_account` are handed on.
 mod chains;
 
-ghost use Rattle.std.specs.Prelude.{◌≤◌, ◌<◌, ◌≡◌, true, not, length, get_or};
+ghost use Rattle.std.specs.Prelude.{◌<◌, ◌≡◌, length, get_or};
 ghost use Rattle.series.specs.Refusals.{account_refused, list_verdict, positions_verdict, list_verdict_for};
-ghost use Rattle.series.specs.Series.{MOST_POSITIONS, ordered_by};
+ghost use Rattle.series.specs.Series.{ordered_by};
 ghost use Rattle.series.specs.declared.Method.{Method as Method·};
 ghost use Rattle.rising_lists.specs.Judged.{judged_of, EvenList};
 ghost use Rattle.rising_lists.specs.Earlier.{earlier};
 ghost use Rattle.list_judging.specs.Chains.{Linked};
-ghost use Rattle.list_judging.specs.LookUp.{some, repeated, looked_up, look_up_of};
 
-use crate::chains::{bucket_of, follow, link, stands_earlier};
+use crate::chains::{link, stands_earlier};
 pub use rising_lists::{Judged, judge_by_account};
 use rising_lists::{Walk, is_refused, judge_rows, refuse_shorts};
 use series::{Contracts, Method, Refusal};
@@ -103,49 +102,4 @@ pub fn judge_list(method: Method, codes: &[u32], accounts: &[u32], shorts: &[u32
     ensures { judged_of result ≡ list_verdict method codes.now accounts.now shorts.now }
 {
     judge(method, codes, accounts, shorts, shorts.len())
-}
-
-// Where an account stands in a list, one more than its position, 0 where it stands nowhere; or a refusal.
-#[derive(Drop)]
-pub enum LookUp {
-    At(usize),
-    Refused(Refusal),
-}
-
-// Links accounts in turn, 0 being none, up to one that stands earlier; whether there is no such one.
-fn link_all(accounts: &[u32], head: &mut [u16; 4096], next: &mut [u16; 4096]) -> bool
-    requires { (length accounts.now ≤ MOST_POSITIONS) × Linked accounts.now head.old next.old 0 }
-    ensures value { result ≡ not (repeated (some accounts.now)) }
-    ensures linked { result ≡ true → Linked accounts.now head.new next.new (length accounts.now) }
-{
-    let mut i = 0;
-    while i < accounts.len() {
-        if accounts[i] != 0 {
-            if stands_earlier(accounts, i, head, next) {
-                return false;
-            }
-            link(accounts, i, head, next);
-        }
-        i += 1;
-    }
-    true
-}
-
-// Looks an account up among others, 0 being none: refused where they are too many, or one stands twice.
-pub fn look_up(accounts: &[u32], account: u32) -> LookUp
-    ensures { look_up_of result ≡ looked_up accounts.now account }
-{
-    if 4096 < accounts.len() {
-        return LookUp::Refused(Refusal::TooManyPositions);
-    }
-    let mut head = [0u16; 4096];
-    let mut next = [0u16; 4096];
-    if !link_all(accounts, &mut head, &mut next) {
-        return LookUp::Refused(Refusal::AccountRepeated);
-    }
-    if account == 0 {
-        return LookUp::At(0);
-    }
-    let from = head[bucket_of(account)];
-    LookUp::At(follow(accounts, &next, from, account))
 }

@@ -49,15 +49,15 @@ unfolding handed
 handed-from r h e = stepped r (λ ps. value (record { positions = length ps; total = total (shorts_of ps) })) h e
 
 -- a refusal keeps both outputs
-pub refused-kept : (r : Result (List Position)) (n : ℕ) (accounts shorts : List ℕ) → handed r ≡ refused n → ListsMerged r (lent accounts accounts) (lent shorts shorts)
+pub refused_kept : (r : Result (List Position)) (n : ℕ) (accounts shorts : List ℕ) → handed r ≡ refused n → ListsMerged r (lent accounts accounts) (lent shorts shorts)
 unfolding handed
-refused-kept (refused m) n accounts shorts e = record { writes_accounts = refl; writes_shorts = refl }
-refused-kept (value ps) n accounts shorts e = absurd (never n _ (sym e))
+refused_kept (refused m) n accounts shorts e = record { writes_accounts = refl; writes_shorts = refl }
+refused_kept (value ps) n accounts shorts e = absurd (never n _ (sym e))
 
 -- and so does a call that comes to one
 pub merges_refused : (r : Result (List Position)) (n : ℕ) (accounts shorts : List ℕ) → r ≡ refused n → Merges r (refused n) (lent accounts accounts) (lent shorts shorts)
 unfolding handed
-merges_refused r n accounts shorts e = record { answered = ap handed (sym e); written = refused-kept r n accounts shorts (ap handed e) }
+merges_refused r n accounts shorts e = record { answered = ap handed (sym e); written = refused_kept r n accounts shorts (ap handed e) }
 
 -- ---- the whole call
 

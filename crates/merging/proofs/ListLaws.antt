@@ -17,7 +17,7 @@ use Rattle.series.proofs.AcceptedLaws.{or-false, positive, list_verdict_lem}
 use Rattle.series.proofs.CodeLaws.{codes_are_accounts}
 use Rattle.list_judging.proofs.ListLaws.{judged_list}
 use Rattle.merging.specs.Merging.{Position, PositionList, list_of, paired, positions, accounts_of, shorts_of, merged, judged_alone, merged_of}
-use Rattle.merging.proofs.MergeLaws.{Between, merged-length, Rises, merged-rises}
+use Rattle.merging.proofs.MergeLaws.{Between, merged-length, Rises, merged_rises}
 use Rattle.merging.proofs.JudgeLaws.{faultless}
 use Rattle.merging.proofs.WalkLaws.{accounts-long, paired-accounts}
 use Rattle.merging.proofs.CallLaws.{whole-total}
@@ -73,8 +73,8 @@ merged_list one two = list_of (accounts_of (merged_of one two)) (shorts_of (merg
 
 module _ (one two : PositionList) (T U : ℕ) (first_is : judged_alone one ≡ value T) (second_is : judged_alone two ≡ value U) where
   -- it rises, and no shorts are 0
-  pub whole-rises : Rises 0 (merged_of one two)
-  whole-rises = merged-rises (positions one) (positions two) 0 (faultless_rises one T first_is) (faultless_rises two U second_is)
+  pub whole_rises : Rises 0 (merged_of one two)
+  whole_rises = merged_rises (positions one) (positions two) 0 (faultless_rises one T first_is) (faultless_rises two U second_is)
 
   -- so many positions it has
   pub whole_length : Between (length one.accounts) (length two.accounts) (length (merged_of one two))
@@ -100,7 +100,7 @@ module _ (one two : PositionList) (T U : ℕ) (first_is : judged_alone one ≡ v
       let long : length accounts ≡ length shorts = length-map ms (λ p. p.account) ∙ sym (length-map ms (λ p. p.shorts)) in
       let some : length shorts ≡ 0 → ⊥ = λ e. omega (arith, length-map ms (λ p. p.shorts), whole_length.first, (faultless one T first_is).some, (faultless one T first_is).bounded.even) in
       list_verdict_lem Method.ProRata accounts accounts shorts
-      ∙ rw (eq-eqb (length accounts) (length shorts) long, ne_eqb (length shorts) 0 some, rises_judged (total shorts) ms [] 0 0 whole-rises (omega arith), zero-add (total shorts), whole_sum, length-map ms (λ p. p.shorts)) refl
+      ∙ rw (eq-eqb (length accounts) (length shorts) long, ne_eqb (length shorts) 0 some, rises_judged (total shorts) ms [] 0 0 whole_rises (omega arith), zero-add (total shorts), whole_sum, length-map ms (λ p. p.shorts)) refl
 
   -- where neither applies, no list's refusal is met, under any method that goes by accounts
   pub whole_accepted : length (merged_of one two) ≤ MOST_POSITIONS → T + U ≤ MOST_CONTRACTS → (m : Method) (codes : List ℕ) → ordered_by m codes (accounts_of (merged_of one two)) ≡ accounts_of (merged_of one two)

@@ -91,9 +91,9 @@ Rises b [] = Unit {0}
 Rises b (p ∷ ps) = (b < p.account) × ((0 < p.shorts) × Rises p.account ps)
 
 -- the merged list of two rising lists rises
-pub merged-rises : (ps qs : List Position) (b : ℕ) → Rises b ps → Rises b qs → Rises b (merged ps qs)
+pub merged_rises : (ps qs : List Position) (b : ℕ) → Rises b ps → Rises b qs → Rises b (merged ps qs)
 unfolding Rises
-merged-rises =
+merged_rises =
     merged_cases (λ ps qs ms. (b : ℕ) → Rises b ps → Rises b qs → Rises b ms)
     (λ qs b r s. s)
     (λ p ps b r s. r)
@@ -140,8 +140,8 @@ only_list (p ∷ ps) (q ∷ qs) b r s same =
 
 -- the merged list of two rising lists is the only rising list in which every account has what both lists have together
 pub merged_only : (ps qs ms : List Position) (b : ℕ) → Rises b ps → Rises b qs → Rises b ms → ((a : ℕ) → held_by a ms ≡ held_by a ps + held_by a qs) → ms ≡ merged ps qs
-merged_only ps qs ms b r s t sums = only_list ms (merged ps qs) b t (merged-rises ps qs b r s) (λ a. sums a ∙ sym (merged-held a ps qs))
+merged_only ps qs ms b r s t sums = only_list ms (merged ps qs) b t (merged_rises ps qs b r s) (λ a. sums a ∙ sym (merged-held a ps qs))
 
 -- the order of the two lists does not matter
 pub either_order : (ps qs : List Position) (b : ℕ) → Rises b ps → Rises b qs → merged ps qs ≡ merged qs ps
-either_order ps qs b r s = merged_only qs ps (merged ps qs) b s r (merged-rises ps qs b r s) (λ a. omega (arith, merged-held a ps qs))
+either_order ps qs b r s = merged_only qs ps (merged ps qs) b s r (merged_rises ps qs b r s) (λ a. omega (arith, merged-held a ps qs))

@@ -19,7 +19,7 @@ use Rattle.merging.proofs.MergeLaws.{Between, held_by, merged-held, only_list, e
 use Rattle.merging.proofs.JudgeLaws.{faultless}
 use Rattle.merging.proofs.WalkLaws.{paired-accounts, paired-shorts, paired_back}
 use Rattle.merging.proofs.CallLaws.{whole-total, handed-from, passed}
-use Rattle.merging.proofs.ListLaws.{faultless_rises, whole-rises, whole_length, whole_sum, whole_accepted}
+use Rattle.merging.proofs.ListLaws.{faultless_rises, whole_rises, whole_length, whole_sum, whole_accepted}
 
 -- what a call that is not refused found: both lists without a fault, and a merged list that is not too long
 record Found (one two : PositionList) (accountsRoom shortsRoom : ℕ) : Type 0 where
@@ -113,7 +113,7 @@ module _ (one two : PositionList) (h : Handed) (accounts shorts : Lent (List ℕ
   pub call_only : (l : PositionList) (T : ℕ) → judged_alone l ≡ value T → ((a : ℕ) → held_by a (positions l) ≡ held_by a (positions one) + held_by a (positions two)) → l ≡ out
   call_only l T e same =
       let even = (faultless l T e).bounded.even in
-      let is : positions l ≡ ms = only_list (positions l) ms 0 (faultless_rises l T e) (whole-rises one two _ _ f.first_is f.second_is) (λ a. same a ∙ sym (merged-held a (positions one) (positions two))) in
+      let is : positions l ≡ ms = only_list (positions l) ms 0 (faultless_rises l T e) (whole_rises one two _ _ f.first_is f.second_is) (λ a. same a ∙ sym (merged-held a (positions one) (positions two))) in
       ap₂ list_of
       (sym (paired-accounts l.accounts l.shorts even) ∙ ap accounts_of is ∙ sym out_accounts)
       (sym (paired-shorts l.accounts l.shorts even) ∙ ap shorts_of is ∙ sym out_shorts)

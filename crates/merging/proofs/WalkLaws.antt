@@ -28,8 +28,8 @@ pub walked_start : (ps qs : List Position) → Walked ps qs 0 0 0
 walked_start ps qs = record { on_first = omega arith; on_second = omega arith; rest = refl; counted = zero-add (length (merged ps qs)) }
 
 -- the account of position i
-pub account_at_lem : (ps : List Position) (accounts : List ℕ) (i : ℕ) → accounts_of ps ≡ accounts → get_or accounts i 0 ≡ (get_or ps i none).account
-account_at_lem ps accounts i e = ap (λ (l : List ℕ). get_or l i 0) (sym e) ∙ get_or-map (λ p. p.account) ps i none
+pub account-at : (ps : List Position) (accounts : List ℕ) (i : ℕ) → accounts_of ps ≡ accounts → get_or accounts i 0 ≡ (get_or ps i none).account
+account-at ps accounts i e = ap (λ (l : List ℕ). get_or l i 0) (sym e) ∙ get_or-map (λ p. p.account) ps i none
 
 -- its shorts
 pub shorts-at : (ps : List Position) (shorts : List ℕ) (i : ℕ) → shorts_of ps ≡ shorts → get_or shorts i 0 ≡ (get_or ps i none).shorts

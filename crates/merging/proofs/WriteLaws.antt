@@ -14,7 +14,7 @@ use Rattle.series.proofs.SumLaws.{total_term}
 use Rattle.merging.specs.Merging.{Position, PositionList, positions, accounts_of, shorts_of, added, merged, ListsMerged, merged_of}
 use Rattle.merging.specs.Walks.{Fitting, FittingFrom, PutFrom}
 use Rattle.merging.proofs.MergeLaws.{merged-length}
-use Rattle.merging.proofs.WalkLaws.{none, Walked, walked_start, account_at_lem, accounts-long, shorts-at, Step, step_first, step_second, step_both, more, walked_at, walked_next, walked_end, walked_count, Written, written-length, written_next, written_all, paired-accounts, paired-shorts, map-drop}
+use Rattle.merging.proofs.WalkLaws.{none, Walked, walked_start, account-at, accounts-long, shorts-at, Step, step_first, step_second, step_both, more, walked_at, walked_next, walked_end, walked_count, Written, written-length, written_next, written_all, paired-accounts, paired-shorts, map-drop}
 
 -- the outputs keep their lengths
 pub put_length : (l : PositionList) (begin at : ℕ) (accounts shorts : Lent (List ℕ)) → PutFrom l begin at accounts shorts → (length accounts.new ≡ length accounts.old) × (length shorts.new ≡ length shorts.old)
@@ -73,10 +73,10 @@ module _ (one two : PositionList) (accounts₀ shorts₀ : List ℕ) where
 
       -- the next position of each list
       first_is : (get_or one.accounts i 0 ≡ p.account) × (get_or one.shorts i 0 ≡ p.shorts)
-      first_is = (account_at_lem (positions one) one.accounts i ones, shorts-at (positions one) one.shorts i one-shorts)
+      first_is = (account-at (positions one) one.accounts i ones, shorts-at (positions one) one.shorts i one-shorts)
 
       second_is : (get_or two.accounts j 0 ≡ q.account) × (get_or two.shorts j 0 ≡ q.shorts)
-      second_is = (account_at_lem (positions two) two.accounts j twos, shorts-at (positions two) two.shorts j two_shorts)
+      second_is = (account-at (positions two) two.accounts j twos, shorts-at (positions two) two.shorts j two_shorts)
 
       -- the merged list has a position more, and both outputs have room for it
       pub has_room : (n < length accounts) × (n < length shorts)

@@ -9,8 +9,8 @@ use native.Mathlib.Nat.{zero-add, suc-add}
 use Rattle.series.specs.Places.{steps, marked, OnWheel}
 use Rattle.series.specs.Wheel.{ONE, blocks, interval, wheel_marks}
 use Rattle.series.specs.Refusals.{too_many_blocks}
-use Rattle.series.proofs.PlaceLaws.{up_from, places_at, places-append, steps-turn, within_yes, marked_append}
-use Rattle.series.proofs.WheelLaws.{offsets, BlockSum, blocks_are, wheel_offsets, wheel-places}
+use Rattle.series.proofs.PlaceLaws.{up_from, places_at, places_append, steps-turn, within_yes, marked_append}
+use Rattle.series.proofs.WheelLaws.{offsets, BlockSum, blocks_are, wheel_offsets, wheel_places}
 
 -- the offsets of the first j blocks, then those from the next block on: it begins j * I contracts and the whole contracts of j skips after a
 pub block_begins : (I k l j n a r : ℕ) → r < ONE → offsets I k l (j + n) a r ≡ offsets I k 0 j a r ++ offsets I k l n (a + j * I + (j * k + r) / ONE) ((j * k + r) % ONE)
@@ -36,7 +36,7 @@ unfolding offsets
 blocks-first T I k l zero a r m p hi some e = run-first T l a m p (omega arith) e
 blocks-first T I k l (suc n) a r m p hi some e =
     let after : List ℕ = offsets I k l n (a + I + (k + r) / ONE) ((k + r) % ONE) in
-    rw (places-append T (up_from a I) after p, marked_append m (suc m) (places_at T (up_from a I) p) (places_at T after p)) (omega (arith, run-first T I a m p hi e))
+    rw (places_append T (up_from a I) after p, marked_append m (suc m) (places_at T (up_from a I) p) (places_at T after p)) (omega (arith, run-first T I a m p hi e))
 
 -- ROUND TO THE START: where a block after the first begins T contracts after starting place m + 1, contract m + 1 is marked twice
 pub round_twice : (I T S j m : ℕ) → 0 < I → 0 < S → 0 < j → j < blocks I S → j * I + j * interval I T (blocks I S) / ONE ≡ T → m < T → 2 ≤ marked m (suc m) (wheel_marks I T S (suc m))
@@ -53,7 +53,7 @@ round_twice I T S j m hi hs hj before-end turn on =
     let rest : List ℕ = offsets I k l n o ((j * k + 0) % ONE) in
     let parts : wheel_offsets I T S ≡ first ++ rest = ap (λ c. offsets I k l c 0 0) all ∙ block_begins I k l j n 0 0 (omega arith) in
     let again : steps T o (suc m) ≡ suc m = ap (λ c. steps T c (suc m)) whole ∙ steps-turn T (suc m) (record { low = omega arith; high = on }) in
-    rw (wheel-places I T S (suc m), parts, places-append T first rest (suc m), marked_append m (suc m) (places_at T first (suc m)) (places_at T rest (suc m)))
+    rw (wheel_places I T S (suc m), parts, places_append T first rest (suc m), marked_append m (suc m) (places_at T first (suc m)) (places_at T rest (suc m)))
     (omega (arith, blocks-first T I k 0 j 0 0 m (suc m) hi (omega arith) refl, blocks-first T I k l n o ((j * k + 0) % ONE) m (suc m) hi (omega (arith, b.above)) again))
 
 -- all that `wheel_once` asks but the limit on blocks, and contract m + 1 marked twice from starting place p

@@ -34,9 +34,9 @@ module _ (s : Series) (room T : ℕ) (v : verdict s room ≡ value T) where
   verdict-room = ltb-false _ _ all_passed.1.1.1.0
 
   -- the draw is not turned away
-  pub draw-passes : NoneApplies (then_draw_rows s.terms (held s) (length s.shorts))
+  pub draw_passes : NoneApplies (then_draw_rows s.terms (held s) (length s.shorts))
   unfolding rows list_rows NoneApplies length_rows room_rows terms_rows exercised_rows
-  draw-passes =
+  draw_passes =
       let terms = (passed_append (position_rows (method s) [] 0 0 (order s) s.accounts s.shorts) (terms_rows s.terms (held s) (length s.shorts)) all_passed.1.1.1.1).1 in
       (passed_append (increment_rows s.terms (held s)) (then_draw_rows s.terms (held s) (length s.shorts)) terms.1.1).1
 

@@ -29,8 +29,8 @@ pub record Distinct (accounts : List ℕ) : Type 0 where
   pub differ : (i j : ℕ) → i < j → j < length accounts → get_or accounts i 0 ≡ get_or accounts j 0 → ⊥
 
 -- one number in front
-rises-cons : (b k : ℕ) (ks : List ℕ) → b < k → RisesAbove k ks → RisesAbove b (k ∷ ks)
-rises-cons b k ks h r = record { above = above; rising = rising }
+rises_cons : (b k : ℕ) (ks : List ℕ) → b < k → RisesAbove k ks → RisesAbove b (k ∷ ks)
+rises_cons b k ks h r = record { above = above; rising = rising }
   where
     above : (i : ℕ) → i < length (k ∷ ks) → b < get_or (k ∷ ks) i 0
     above zero lt = h
@@ -51,7 +51,7 @@ positions_rise m earlier b sum [] accounts hs la lk h = rises_none b
 positions_rise m earlier b sum (k ∷ ks) [] hs la lk h = absurd (omega arith)
 positions_rise m earlier b sum (k ∷ ks) (a ∷ accounts) [] la lk h = absurd (omega arith)
 positions_rise m earlier b sum (k ∷ ks) (a ∷ accounts) (x ∷ hs) la lk h =
-    rises-cons b k ks (leb-false k b (or-false (eqb k 0) (leb k b) h.0).1) (positions_rise m (a ∷ earlier) k (sum + x) ks accounts hs (omega arith) (omega arith) h.1.1.1.1)
+    rises_cons b k ks (leb-false k b (or-false (eqb k 0) (leb k b) h.0).1) (positions_rise m (a ∷ earlier) k (sum + x) ks accounts hs (omega arith) (omega arith) h.1.1.1.1)
 
 -- and under W their accounts are above 0, none of the earlier ones, and differ
 record New (earlier accounts : List ℕ) : Type 0 where
@@ -92,8 +92,8 @@ module _ (s : Series) (room : ℕ) (ok : Accepted s room) where
   facts = accepted_facts s room ok
 
   -- its list rises from above 0: by the codes under W, by the accounts under P and L
-  pub order-rises : RisesAbove 0 (order s)
-  order-rises = positions_rise (method s) [] 0 0 (order s) s.accounts s.shorts facts.lengths facts.ordered (positions_pass s room ok)
+  pub order_rises : RisesAbove 0 (order s)
+  order_rises = positions_rise (method s) [] 0 0 (order s) s.accounts s.shorts facts.lengths facts.ordered (positions_pass s room ok)
 
   module _ (w : method s ≡ Method.Wheel) where
     by_code : order s ≡ s.codes
@@ -101,7 +101,7 @@ module _ (s : Series) (room : ℕ) (ok : Accepted s room) where
 
     -- under W the codes rise
     pub codes_rise : RisesAbove 0 s.codes
-    codes_rise = subst (RisesAbove 0) by_code order-rises
+    codes_rise = subst (RisesAbove 0) by_code order_rises
 
     -- under W the accounts are above 0 and differ
     pub accounts_differ : Distinct s.accounts

@@ -24,7 +24,7 @@ use Rattle.series.specs.Fair.{Near, Fair, FairOutput}
 use Rattle.series.specs.declared.Method.{Method}
 use Rattle.series.specs.declared.Terms.{Terms}
 use Rattle.series.proofs.AcceptedLaws.{IncrementFacts, Facts, accepted_facts, verdict_accepted}
-use Rattle.series.proofs.CallLaws.{draw-passes, wheel_judged, lottery_judged, wheel-draw, lottery-draw, starting_on}
+use Rattle.series.proofs.CallLaws.{draw_passes, wheel_judged, lottery_judged, wheel-draw, lottery-draw, starting_on}
 use Rattle.series.proofs.SumLaws.{sum_cong, length-listed}
 use Rattle.series.proofs.ProRataLaws.{pro_rata-sum, pro_rata-most, pro_rata_share}
 use Rattle.series.proofs.WheelLaws.{length-wheel, wheel-whole, wheel-sum, wheel-most, wheel_share, wheel_once}
@@ -119,7 +119,7 @@ module _ (s : Series) (room T : ℕ) (v : verdict s room ≡ value T) where
   wheel-from e =
       elim (ℕ_discrete (exercised s) (held s)) [
         | yes whole ↦ record { place = 1; on = first-place; same = wheel-whole (increment s) s.shorts (exercised s) (draw s) whole ∙ sym (wheel-whole (increment s) s.shorts (exercised s) 1 whole) }
-        | no part ↦ record { place = draw s; on = wheel-draw s.terms (held s) e (wheel_judged s.terms (held s) (length s.shorts) e part (draw-passes s room T v)); same = refl }
+        | no part ↦ record { place = draw s; on = wheel-draw s.terms (held s) e (wheel_judged s.terms (held s) (length s.shorts) e part (draw_passes s room T v)); same = refl }
       ]
 
   -- p is a place on the wheel where a starting place is needed
@@ -128,7 +128,7 @@ module _ (s : Series) (room T : ℕ) (v : verdict s room ≡ value T) where
 
   pub lottery_drawn : method s ≡ Method.Lottery → Drawn (starting_place (held s) (draw s))
   lottery_drawn e needed =
-      starting_on (held s) (draw s) (some-total s room ok) (lottery-draw s.terms (held s) e (lottery_judged s.terms (held s) (length s.shorts) e needed (draw-passes s room T v)))
+      starting_on (held s) (draw s) (some-total s room ok) (lottery-draw s.terms (held s) e (lottery_judged s.terms (held s) (length s.shorts) e needed (draw_passes s room T v)))
 
   pub remainder_drawn : Drawn (remainder_place (held s) (draw s))
   remainder_drawn needed = remainder-on (held s) (draw s) (some-total s room ok)

@@ -12,26 +12,26 @@ use borrow.Author.Tests.{eq-eqb, ne_eqb, eqb-true}
 use Rattle.series.specs.Places.{total, steps, run, marked, amounts, OnWheel, over_places}
 use Rattle.series.specs.Lottery.{lottery, unstarted, lottery_amounts, start_used}
 use Rattle.series.proofs.SumLaws.{all_of}
-use Rattle.series.proofs.PlaceLaws.{length-amounts, up_from, length-up_from, places_at, run-places, rising_up_from, over_cong, places-sum, places_share, places-most, places_once}
+use Rattle.series.proofs.PlaceLaws.{length-amounts, up_from, length-up_from, places_at, run_places, rising_up_from, over_cong, places_sum, places_share, places_most, places_once}
 
 run_offsets : (T S p : ℕ) → run T S p ≡ places_at T (up_from 0 S) p
 unfolding steps
-run_offsets T S p = run-places T S 0 p
+run_offsets T S p = run_places T S 0 p
 
-pub lottery-places : (hs : List ℕ) (S p : ℕ) → lottery hs S p ≡ amounts hs (places_at (total hs) (up_from 0 S) p)
+pub lottery_places : (hs : List ℕ) (S p : ℕ) → lottery hs S p ≡ amounts hs (places_at (total hs) (up_from 0 S) p)
 unfolding lottery
-lottery-places hs S p = ap (amounts hs) (run_offsets (total hs) S p)
+lottery_places hs S p = ap (amounts hs) (run_offsets (total hs) S p)
 
 pub lottery-sum : (hs : List ℕ) (S p : ℕ) → OnWheel (total hs) p → total (lottery hs S p) ≡ S
-lottery-sum hs S p on = ap total (lottery-places hs S p) ∙ places-sum hs (up_from 0 S) p on ∙ length-up_from 0 S
+lottery-sum hs S p on = ap total (lottery_places hs S p) ∙ places_sum hs (up_from 0 S) p on ∙ length-up_from 0 S
 
 pub lottery-most : (hs : List ℕ) (S p : ℕ) → S ≤ total hs → OnWheel (total hs) p → (i : ℕ) → i < length hs → get_or (lottery hs S p) i 0 ≤ get_or hs i 0
 lottery-most hs S p most on i h =
-    rw (lottery-places hs S p) (places-most hs (up_from 0 S) p i on (rising_up_from 0 S (total hs) (omega arith)) h)
+    rw (lottery_places hs S p) (places_most hs (up_from 0 S) p i on (rising_up_from 0 S (total hs) (omega arith)) h)
 
 pub lottery_share : (hs : List ℕ) (S i : ℕ) → i < length hs → over_places (total hs) (λ p. get_or (lottery hs S p) i 0) ≡ get_or hs i 0 * S
 lottery_share hs S i h =
-    over_cong (total hs) (λ p. get_or (lottery hs S p) i 0) (λ p. get_or (amounts hs (places_at (total hs) (up_from 0 S) p)) i 0) (λ p _. ap (λ xs. get_or xs i 0) (lottery-places hs S p)) ∙
+    over_cong (total hs) (λ p. get_or (lottery hs S p) i 0) (λ p. get_or (amounts hs (places_at (total hs) (up_from 0 S) p)) i 0) (λ p _. ap (λ xs. get_or xs i 0) (lottery_places hs S p)) ∙
     places_share hs (up_from 0 S) i h ∙
     ap (get_or hs i 0 *◌) (length-up_from 0 S)
 

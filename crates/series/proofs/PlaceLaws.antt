@@ -77,10 +77,10 @@ unfoldable pub places_at : ℕ → List ℕ → ℕ → List ℕ
 places_at T [] p = []
 places_at T (o ∷ os) p = steps T o p ∷ places_at T os p
 
-pub places-append : (T : ℕ) (os us : List ℕ) (p : ℕ) → places_at T (os ++ us) p ≡ places_at T os p ++ places_at T us p
+pub places_append : (T : ℕ) (os us : List ℕ) (p : ℕ) → places_at T (os ++ us) p ≡ places_at T os p ++ places_at T us p
 unfolding places_at
-places-append T [] us p = refl
-places-append T (o ∷ os) us p = ap (steps T o p ∷◌) (places-append T os us p)
+places_append T [] us p = refl
+places_append T (o ∷ os) us p = ap (steps T o p ∷◌) (places_append T os us p)
 
 pub length-places : (T : ℕ) (os : List ℕ) (p : ℕ) → length (places_at T os p) ≡ length os
 unfolding places_at
@@ -88,10 +88,10 @@ length-places T [] p = refl
 length-places T (o ∷ os) p = ap suc (length-places T os p)
 
 -- a run is the places at offsets one after the other
-pub run-places : (T n a p : ℕ) → run T n (steps T a p) ≡ places_at T (up_from a n) p
+pub run_places : (T n a p : ℕ) → run T n (steps T a p) ≡ places_at T (up_from a n) p
 unfolding run up_from places_at
-run-places T zero a p = refl
-run-places T (suc n) a p = ap (steps T a p ∷◌) (ap (run T n) (sym (steps-suc T a p)) ∙ run-places T n (suc a) p)
+run_places T zero a p = refl
+run_places T (suc n) a p = ap (steps T a p ∷◌) (ap (run T n) (sym (steps-suc T a p)) ∙ run_places T n (suc a) p)
 
 pub within_yes : (b e m : ℕ) → b < m → m ≤ e → bit (within b e m) ≡ 1
 unfolding within bit
@@ -234,8 +234,8 @@ marked_all T (o ∷ os) p h =
     omega (arith, within_yes 0 T (steps T o p) on.low on.high, marked_all T os p h)
 
 -- THE SUM: from any starting place the amounts add up to the number of offsets
-pub places-sum : (hs os : List ℕ) (p : ℕ) → OnWheel (total hs) p → total (amounts hs (places_at (total hs) os p)) ≡ length os
-places-sum hs os p h = amounts-total hs (places_at (total hs) os p) ∙ marked_all (total hs) os p h
+pub places_sum : (hs os : List ℕ) (p : ℕ) → OnWheel (total hs) p → total (amounts hs (places_at (total hs) os p)) ≡ length os
+places_sum hs os p h = amounts-total hs (places_at (total hs) os p) ∙ marked_all (total hs) os p h
 
 -- one step round the wheel changes no sum over all places
 over_next : (T : ℕ) (f : ℕ → ℕ) → over_places T (λ p. f (next T p)) ≡ over_places T f
@@ -354,9 +354,9 @@ marked-most T b e p os h r hb he =
     omega (arith, marked_rising T b e 0 p os r, within-sum b e T hb)
 
 -- AT MOST ITS SHORTS: at rising offsets below T position i gets no more than its shorts
-pub places-most : (hs os : List ℕ) (p i : ℕ) → OnWheel (total hs) p → Rising 0 os (total hs) → i < length hs → get_or (amounts hs (places_at (total hs) os p)) i 0 ≤ get_or hs i 0
+pub places_most : (hs os : List ℕ) (p i : ℕ) → OnWheel (total hs) p → Rising 0 os (total hs) → i < length hs → get_or (amounts hs (places_at (total hs) os p)) i 0 ≤ get_or hs i 0
 unfolding last
-places-most hs os p i h r l =
+places_most hs os p i h r l =
     omega (arith, amount-at hs (places_at (total hs) os p) i l, marked-most (total hs) (before hs i) (last hs i) p os h r (omega arith) (last-total hs i l))
 
 -- NO CONTRACT TWICE: at rising offsets below T contract m + 1 is marked at most once

@@ -157,8 +157,8 @@ module _ (s r : Series) (a b : Allocation) (old new old' new' : List ℕ) (call 
     total_kept = ap (λ x. x.total) after.handed ∙ same ∙ ap (λ x. x.total) (sym before.handed)
 
     -- and the same further number, where both have one
-    pub further-kept : (x y : ℕ) → a.further ≡ some x → b.further ≡ some y → x ≡ y
-    further-kept x y one other =
+    pub further_kept : (x y : ℕ) → a.further ≡ some x → b.further ≡ some y → x ≡ y
+    further_kept x y one other =
         further_is s.terms s.shorts x rule (ap (λ c. c.further) (sym before.handed) ∙ one)
         ∙ ap (further_at s.terms) (sym same)
         ∙ sym (further_is s.terms r.shorts y rule (rw terms at (ap (λ c. c.further) (sym after.handed) ∙ other)))

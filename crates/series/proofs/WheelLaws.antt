@@ -11,20 +11,20 @@ use lib.ListN.{length, get_or, length-append}
 use borrow.Author.Tests.{eq-eqb, ne_eqb}
 use Rattle.series.specs.Places.{total, steps, marked, amounts, OnWheel, over_places}
 use Rattle.series.specs.Wheel.{ONE, blocks, interval, marks, wheel_marks, wheel}
-use Rattle.series.proofs.PlaceLaws.{steps-add, up_from, length-up_from, places_at, length-places, places-append, run-places, Rising, rising_up_from, rising_append, rising_more, over_cong, over_const, places-sum, places_share, places-most, places_once, length-amounts}
+use Rattle.series.proofs.PlaceLaws.{steps-add, up_from, length-up_from, places_at, length-places, places_append, run_places, Rising, rising_up_from, rising_append, rising_more, over_cong, over_const, places_sum, places_share, places_most, places_once, length-amounts}
 
 -- the offsets that n blocks of I and a last one of l mark, from offset a on, with skip interval k and reserve r
 unfoldable pub offsets : ℕ → ℕ → ℕ → ℕ → ℕ → ℕ → List ℕ
 offsets I k l zero a r = up_from a l
 offsets I k l (suc n) a r = up_from a I ++ offsets I k l n (a + I + (k + r) / ONE) ((k + r) % ONE)
 
-pub marks-places : (T I k l n a p r : ℕ) → marks T I k l n (steps T a p) r ≡ places_at T (offsets I k l n a r) p
+pub marks_places : (T I k l n a p r : ℕ) → marks T I k l n (steps T a p) r ≡ places_at T (offsets I k l n a r) p
 unfolding marks offsets
-marks-places T I k l zero a p r = run-places T l a p
-marks-places T I k l (suc n) a p r =
+marks_places T I k l zero a p r = run_places T l a p
+marks_places T I k l (suc n) a p r =
     let at_next : steps T ((k + r) / ONE) (steps T I (steps T a p)) ≡ steps T (a + I + (k + r) / ONE) p = ap (steps T ((k + r) / ONE)) (sym (steps-add T a I p)) ∙ sym (steps-add T (a + I) ((k + r) / ONE) p) in
-    ap₂ ◌++◌ (run-places T I a p) (ap (λ q. marks T I k l n q ((k + r) % ONE)) at_next ∙ marks-places T I k l n (a + I + (k + r) / ONE) p ((k + r) % ONE)) ∙
-    sym (places-append T (up_from a I) (offsets I k l n (a + I + (k + r) / ONE) ((k + r) % ONE)) p)
+    ap₂ ◌++◌ (run_places T I a p) (ap (λ q. marks T I k l n q ((k + r) % ONE)) at_next ∙ marks_places T I k l n (a + I + (k + r) / ONE) p ((k + r) % ONE)) ∙
+    sym (places_append T (up_from a I) (offsets I k l n (a + I + (k + r) / ONE) ((k + r) % ONE)) p)
 
 pub length-offsets : (I k l n a r : ℕ) → length (offsets I k l n a r) ≡ n * I + l
 unfolding offsets
@@ -86,9 +86,9 @@ zero-sum x y z h = omega arith
 unfoldable pub wheel_offsets : ℕ → ℕ → ℕ → List ℕ
 wheel_offsets I T S = offsets I (interval I T (blocks I S)) (S - I * (blocks I S - 1)) (blocks I S - 1) 0 0
 
-pub wheel-places : (I T S p : ℕ) → wheel_marks I T S p ≡ places_at T (wheel_offsets I T S) p
+pub wheel_places : (I T S p : ℕ) → wheel_marks I T S p ≡ places_at T (wheel_offsets I T S) p
 unfolding wheel_marks wheel_offsets steps
-wheel-places I T S p = marks-places T I (interval I T (blocks I S)) (S - I * (blocks I S - 1)) (blocks I S - 1) 0 p 0
+wheel_places I T S p = marks_places T I (interval I T (blocks I S)) (S - I * (blocks I S - 1)) (blocks I S - 1) 0 p 0
 
 -- a skip interval is at least one contract short of the whole wheel
 interval-most : (T n q I : ℕ) → 0 < I → 0 < T → 2 * suc n * q ≤ 2 * (T * ONE) + suc n → q - I * ONE + ONE ≤ T * ONE
@@ -123,20 +123,20 @@ pub wheel_part : (I : ℕ) (hs : List ℕ) (S p : ℕ) → S < total hs → whee
 unfolding wheel
 wheel_part I hs S p h =
     let e : S ≡ total hs → ⊥ = λ q. omega arith in
-    rw (ne_eqb S (total hs) e) (ap (amounts hs) (wheel-places I (total hs) S p))
+    rw (ne_eqb S (total hs) e) (ap (amounts hs) (wheel_places I (total hs) S p))
 
 module _ (I : ℕ) (hs : List ℕ) (S : ℕ) (hi : 0 < I) (some : 0 < S) (most : S ≤ total hs) where
   pub wheel-sum : (p : ℕ) → OnWheel (total hs) p → total (wheel I hs S p) ≡ S
   wheel-sum p on =
       elim (dec_lt S (total hs)) [
-        | yes l ↦ ap total (wheel_part I hs S p l) ∙ places-sum hs (wheel_offsets I (total hs) S) p on ∙ length-wheel_offsets I (total hs) S hi some
+        | yes l ↦ ap total (wheel_part I hs S p l) ∙ places_sum hs (wheel_offsets I (total hs) S) p on ∙ length-wheel_offsets I (total hs) S hi some
         | no g ↦ let e : S ≡ total hs = omega arith in ap total (wheel-whole I hs S p e) ∙ sym e
       ]
 
   pub wheel-most : (S < total hs → blocks I S ≤ ONE) → (p : ℕ) → OnWheel (total hs) p → (i : ℕ) → i < length hs → get_or (wheel I hs S p) i 0 ≤ get_or hs i 0
   wheel-most few p on i h =
       elim (dec_lt S (total hs)) [
-        | yes l ↦ rw (wheel_part I hs S p l) (places-most hs (wheel_offsets I (total hs) S) p i on (rising_wheel_offsets I (total hs) S hi some l (few l)) h)
+        | yes l ↦ rw (wheel_part I hs S p l) (places_most hs (wheel_offsets I (total hs) S) p i on (rising_wheel_offsets I (total hs) S hi some l (few l)) h)
         | no g ↦ rw (wheel-whole I hs S p (omega arith)) (le_refl (get_or hs i 0))
       ]
 
@@ -157,7 +157,7 @@ module _ (I : ℕ) (hs : List ℕ) (S : ℕ) (hi : 0 < I) (some : 0 < S) (most :
 
 pub wheel_once : (I T S : ℕ) → 0 < I → 0 < S → S < T → blocks I S ≤ ONE → (p m : ℕ) → OnWheel T p → m < T → marked m (suc m) (wheel_marks I T S p) ≤ 1
 wheel_once I T S hi some less few p m on l =
-    rw (wheel-places I T S p) (places_once T m p (wheel_offsets I T S) on (rising_wheel_offsets I T S hi some less few) l)
+    rw (wheel_places I T S p) (places_once T m p (wheel_offsets I T S) on (rising_wheel_offsets I T S hi some less few) l)
 
 pub interval-short : (I T T1 : ℕ) → 0 < I → 0 < T → 0 < T1 → interval I T T1 + ONE ≤ T * ONE
 unfolding interval
@@ -168,7 +168,7 @@ interval-short I T T1 hi ht h1 =
     interval-most T n q I hi ht (subst (λ (t : ℕ). 2 * t * q ≤ 2 * (T * ONE) + t) e (mul-div-le (2 * (T * ONE) + T1) (2 * T1)))
 
 pub length-wheel_marks : (I T S p : ℕ) → 0 < I → 0 < S → length (wheel_marks I T S p) ≡ S
-length-wheel_marks I T S p hi hs = ap length (wheel-places I T S p) ∙ length-places T (wheel_offsets I T S) p ∙ length-wheel_offsets I T S hi hs
+length-wheel_marks I T S p hi hs = ap length (wheel_places I T S p) ∙ length-places T (wheel_offsets I T S) p ∙ length-wheel_offsets I T S hi hs
 
 pub length-wheel : (I : ℕ) (hs : List ℕ) (S p : ℕ) → length (wheel I hs S p) ≡ length hs
 unfolding wheel

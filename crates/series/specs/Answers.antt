@@ -4,7 +4,7 @@ use Rattle.std.proofs.Math.Option.{Option, none, some}
 use Rattle.series.specs.Results.{Result, refused, value}
 use Rattle.series.specs.declared.Refusal.{Refusal}
 use Rattle.series.specs.declared.Refusal.TheVariants.{LengthsDiffer, TooManyPositions, NoPositions, OutputTooShort, OutOfOrder, NoShorts, TotalTooLarge, NothingExercised, ExercisedAboveTotal, DrawOutOfRange, TextTooLong, NamesLine, Malformed, UnknownMethod, TooManyLines}
-use Rattle.series.specs.declared.Refusal.TheVariants.{CountTooLarge, ClosingPurchasesAboveShort, ExercisedAboveLimit, AccountRepeated, LastNotAbove, TooManyJobs, StretchMisplaced, IncrementOutOfRange, TooManyBlocks, BookFull, BookUnsound, TakenOffAboveHeld}
+use Rattle.series.specs.declared.Refusal.TheVariants.{CountTooLarge, ClosingPurchasesAboveShort, ExercisedAboveLimit, AccountRepeated, LastNotAbove, TooManyJobs, StretchMisplaced, IncrementOutOfRange, TooManyBlocks}
 use Rattle.series.specs.declared.Method.{Method}
 use Rattle.series.specs.declared.Answer.{Answer}
 
@@ -34,9 +34,6 @@ number_of TooManyJobs = 21
 number_of StretchMisplaced = 22
 number_of IncrementOutOfRange = 23
 number_of TooManyBlocks = 24
-number_of BookFull = 25
-number_of BookUnsound = 26
-number_of TakenOffAboveHeld = 27
 
 -- what an allocation hands back: T and one further number, which its method gives a meaning; none for L and R without a starting place
 pub record Allocation : Type 0 where

@@ -71,9 +71,6 @@ pub enum Refusal {
     StretchMisplaced,
     IncrementOutOfRange,
     TooManyBlocks,
-    BookFull,
-    BookUnsound,
-    TakenOffAboveHeld,
 }
 
 // What the allocating call answers: T with the method's one further number, or a refusal.
@@ -139,8 +136,5 @@ pub fn number(refusal: Refusal) -> u32
         Refusal::StretchMisplaced => 22,
         Refusal::IncrementOutOfRange => 23,
         Refusal::TooManyBlocks => 24,
-        Refusal::BookFull => 25,
-        Refusal::BookUnsound => 26,
-        Refusal::TakenOffAboveHeld => 27,
     }
 }

@@ -214,9 +214,9 @@ module _ (c : ℕ) (s : Text) (at i n : ℕ) (so : NumberTo c s at i n) where
         }
 
     -- no digit stands before it
-    pub number-empty : i ≡ at → NumberRead c s at Field.Malformed
+    pub number_empty : i ≡ at → NumberRead c s at Field.Malformed
     unfolding numbered number numeral spelled
-    number-empty none =
+    number_empty none =
         let zero' : length (slice at i s) ≡ 0 = long ∙ omega arith in
         malformed c s at (ended ∙ rw (so.only, zero'))
 

@@ -634,5 +634,5 @@ pub lists_read : ListsRead (value two) (lent (7 ∷ 7 ∷ 7 ∷ []) (1 ∷ 2 ∷
 unfolding two onto
 lists_read = record { codes = refl; accounts = refl; numbers = refl }
 
-pub lists-kept : ListsRead (refused 4) (lent (7 ∷ []) (7 ∷ [])) (lent (8 ∷ []) (8 ∷ [])) (lent (9 ∷ []) (9 ∷ []))
-lists-kept = record { codes = refl; accounts = refl; numbers = refl }
+pub lists_kept : ListsRead (refused 4) (lent (7 ∷ []) (7 ∷ [])) (lent (8 ∷ []) (8 ∷ [])) (lent (9 ∷ []) (9 ∷ []))
+lists_kept = record { codes = refl; accounts = refl; numbers = refl }

@@ -1,13 +1,13 @@
 -- Laws of the rows of columns, and of the columns of rows.
 use Prim.Native.Nat.{ℕ, zero, suc, ◌+◌, ◌<◌}
 use mathlib.Core.Path.{◌≡◌, refl, ap, ap₂, ◌∙◌}
-use mathlib.Core.List.{List, [], ◌∷◌, ◌++◌, map}
+use mathlib.Core.List.{List, [], ◌∷◌, ◌++◌, map, map-append}
 use native.Mathlib.Omega.{arith}
 use native.Mathlib.Numerals.{add-one}
 use lib.ListN.{length, get_or, take, set, length-append, get_or-append, get_or-map}
 use lib.Seq.{get_or_at, length-take-le, take-suc-set}
 use Rattle.series.specs.Sums.{listed}
-use Rattle.series.proofs.SumLaws.{length-listed, listed_cong, listed_head, map-listed}
+use Rattle.series.proofs.SumLaws.{length-listed, listed_cong, listed_head}
 use Rattle.text_rules.specs.Rows.{row_of, rows_of, column}
 
 -- as many rows as the first column has numbers
@@ -16,6 +16,11 @@ unfolding rows_of
 length_rows_lem c cs = length-listed (row_of (c ∷ cs)) (length c)
 
 -- ---- a column of the rows
+
+map-listed : {A B : Type 0} (f : A → B) (g : ℕ → A) (n : ℕ) → map f (listed g n) ≡ listed (λ i. f (g i)) n
+unfolding listed
+map-listed f g zero = refl
+map-listed f g (suc n) = map-append f (listed g n) (g n ∷ []) ∙ ap (λ l. l ++ (f (g n) ∷ [])) (map-listed f g n)
 
 -- a list is its elements, one by one
 pub listed_all : {A : Type 0} (d : A) (xs : List A) → listed (λ i. get_or xs i d) (length xs) ≡ xs

@@ -24,7 +24,7 @@ use Rattle.text_rules.specs.declared.TermsColumns.{TermsColumns}
 use Rattle.text_rules.specs.Lists.{Columns, PlainCodes}
 use Rattle.text_rules.specs.Calls.{evenly, line_count, head_and_lines}
 use Rattle.text_rules.proofs.FieldLaws.{and-true-parts}
-use Rattle.text_rules.proofs.NameLaws.{terms_line-room, code-room, form-room, length-positions}
+use Rattle.text_rules.proofs.NameLaws.{terms_line-room, code_room, form-room, length-positions}
 use Rattle.text_rules.proofs.RowLaws.{Each, row_few}
 
 pub length-number : (n c : ℕ) → length (write_number n c) ≡ length (decimal n) + 1
@@ -142,7 +142,7 @@ unfolding write_terms
 terms-room c t = omega (arith, row_few (terms_row c t), terms-few c t)
 
 pub columns-room : (f : Form) (c : Bool) → length (positions_line (columns_in f c)) ≤ 19
-columns-room f c = omega (arith, length-positions f c, code-room c, form-room f)
+columns-room f c = omega (arith, length-positions f c, code_room c, form-room f)
 
 pub head_room : (o : Optional) (f : Form) (t : Terms) → length (write_head o f t) ≤ 86
 unfolding write_terms

@@ -131,10 +131,10 @@ pub length-positions : (f : Form) (c : Bool) → length (positions_line (columns
 unfolding positions_line account_line account_name ascii
 length-positions f c = length-append (code_name c) (account_line (columns_in f c)) ∙ ap (length (code_name c) +◌) (length-append account_name (form_name f))
 
-pub code-room : (c : Bool) → length (code_name c) ≤ 5
+pub code_room : (c : Bool) → length (code_name c) ≤ 5
 unfolding code_name ascii
-code-room true = omega arith
-code-room false = omega arith
+code_room true = omega arith
+code_room false = omega arith
 
 pub form-room : (f : Form) → length (form_name f) ≤ 6
 unfolding form_name ascii

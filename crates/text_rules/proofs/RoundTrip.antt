@@ -208,17 +208,17 @@ told o t = record { form = t.form; terms = told_terms o.terms t.terms; codes = t
 told_plain : (o : Optional) (t : Listing) → Plain o (told o t)
 told_plain o t = record { increment = λ e. rw e; codes = λ e. rw e }
 
-told-terms : (c : TermsColumns) (t : Terms) → terms_row c (told_terms c t) ≡ terms_row c t
-told-terms TermsColumns.MethodExercisedDraw t = refl
-told-terms TermsColumns.MethodExercisedDrawIncrement t = refl
+told_terms_lem : (c : TermsColumns) (t : Terms) → terms_row c (told_terms c t) ≡ terms_row c t
+told_terms_lem TermsColumns.MethodExercisedDraw t = refl
+told_terms_lem TermsColumns.MethodExercisedDrawIncrement t = refl
 
-told-columns : (c : Bool) (t : Listing) → columns_by c (told_codes c t.codes t.accounts) t.accounts t.numbers ≡ columns c t
-told-columns true t = refl
-told-columns false t = refl
+told_columns : (c : Bool) (t : Listing) → columns_by c (told_codes c t.codes t.accounts) t.accounts t.numbers ≡ columns c t
+told_columns true t = refl
+told_columns false t = refl
 
 told_text : (o : Optional) (t : Listing) → text_with o (told o t) ≡ text_with o t
 unfolding text_with write_head write_terms
-told_text o t = rw (told-terms o.terms t.terms, told-columns o.coded t)
+told_text o t = rw (told_terms_lem o.terms t.terms, told_columns o.coded t)
 
 told_writable : (o : Optional) (t : Listing) → Writable t → Writable (told o t)
 told_writable o t w =

@@ -40,12 +40,12 @@ onward-after s at i PositionNames.Unknown p q = tt
 
 module _ {s : Text} {at : ℕ} {r : PositionNames} where
   -- `code,` is there, and then the rest of the line
-  pub after-code : {next : ℕ} → LineRead (code_name true) s at (Line.Ends next) → PositionNamesRead account_line (in_forms true) s next r → PositionNamesRead positions_line line3 s at r
-  after-code {next} h q = record { means = q.means ∙ sym (code_there (drop at s) (drop next s) (sym h.means)); onward = onward-after s at next r h.onward q.onward }
+  pub after_code : {next : ℕ} → LineRead (code_name true) s at (Line.Ends next) → PositionNamesRead account_line (in_forms true) s next r → PositionNamesRead positions_line line3 s at r
+  after_code {next} h q = record { means = q.means ∙ sym (code_there (drop at s) (drop next s) (sym h.means)); onward = onward-after s at next r h.onward q.onward }
 
   -- it is not
-  pub without-code : LineRead (code_name true) s at Line.Missing → PositionNamesRead account_line (in_forms false) s at r → PositionNamesRead positions_line line3 s at r
-  without-code h q = record { means = q.means ∙ sym (code_missing (drop at s) 12 (sym h.means)); onward = q.onward }
+  pub without_code : LineRead (code_name true) s at Line.Missing → PositionNamesRead account_line (in_forms false) s at r → PositionNamesRead positions_line line3 s at r
+  without_code h q = record { means = q.means ∙ sym (code_missing (drop at s) 12 (sym h.means)); onward = q.onward }
 
 module _ (p : Text) (line : PositionColumns → Text) {known : List PositionColumns} {s : Text} {at : ℕ} where
   -- the word p is there, and then the rest of the line

@@ -157,24 +157,6 @@ slice-aggregate-put-25 c = search rules
 put-requires-25 : tie.Need-put-requires-25
 put-requires-25 c κs = search rules
 
-slice-aggregate-put-26 : tie.Need-slice-aggregate-put-26
-slice-aggregate-put-26 c = search rules
-
-put-requires-26 : tie.Need-put-requires-26
-put-requires-26 c κs = search rules
-
-slice-aggregate-put-27 : tie.Need-slice-aggregate-put-27
-slice-aggregate-put-27 c = search rules
-
-put-requires-27 : tie.Need-put-requires-27
-put-requires-27 c κs = search rules
-
-slice-aggregate-put-28 : tie.Need-slice-aggregate-put-28
-slice-aggregate-put-28 c = search rules
-
-put-requires-28 : tie.Need-put-requires-28
-put-requires-28 c κs = search rules
-
 same_length : tie.Need-same-length
 same_length c = search rules
 
@@ -347,29 +329,8 @@ same-length-25 : tie.Need-same-length-25
 same-length-25 c = search rules
 
 returns-25 : tie.Need-returns-25
-unfolding explanation refusals ascii
-returns-25 c = let m = c.before.before.before.before.before in let a = m.before.before.args in told a.number a.line.now (explanation 25) _ _ (ap explanation m.match.keys25) c.before.before.put25.ensures.0 c.before.before.put25.ensures.1
-
-same-length-26 : tie.Need-same-length-26
-same-length-26 c = search rules
-
-returns-26 : tie.Need-returns-26
-unfolding explanation refusals ascii
-returns-26 c = let m = c.before.before.before.before.before in let a = m.before.before.args in told a.number a.line.now (explanation 26) _ _ (ap explanation m.match.keys26) c.before.before.put26.ensures.0 c.before.before.put26.ensures.1
-
-same-length-27 : tie.Need-same-length-27
-same-length-27 c = search rules
-
-returns-27 : tie.Need-returns-27
-unfolding explanation refusals ascii
-returns-27 c = let m = c.before.before.before.before.before in let a = m.before.before.args in told a.number a.line.now (explanation 27) _ _ (ap explanation m.match.keys27) c.before.before.put27.ensures.0 c.before.before.put27.ensures.1
-
-same-length-28 : tie.Need-same-length-28
-same-length-28 c = search rules
-
-returns-28 : tie.Need-returns-28
 unfolding no_refusal ascii
-returns-28 c = let m = c.before.before.before.before.before in let a = m.before.before.args in told a.number a.line.now no_refusal _ _ (no_refusal_lem _ m.match.rest) c.before.before.put28.ensures.0 c.before.before.put28.ensures.1
+returns-25 c = let m = c.before.before.before.before.before in let a = m.before.before.args in told a.number a.line.now no_refusal _ _ (no_refusal_lem _ m.match.rest) c.before.before.put25.ensures.0 c.before.before.put25.ensures.1
 
 pub explain-spec : {M : Type 1} → statement M
 explain-spec =
@@ -425,12 +386,6 @@ explain-spec =
     put-requires-24
     slice-aggregate-put-25
     put-requires-25
-    slice-aggregate-put-26
-    put-requires-26
-    slice-aggregate-put-27
-    put-requires-27
-    slice-aggregate-put-28
-    put-requires-28
     same_length
     returns
     same-length-2
@@ -480,10 +435,4 @@ explain-spec =
     same-length-24
     returns-24
     same-length-25
-    returns-25
-    same-length-26
-    returns-26
-    same-length-27
-    returns-27
-    same-length-28
-    returns-28)
+    returns-25)

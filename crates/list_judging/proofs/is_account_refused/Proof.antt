@@ -1,7 +1,7 @@
 -- `is_account_refused` meets its contract: the definition's two cases in turn.
 use mathlib.Core.Path.{sym, ◌∙◌}
 use borrow.Author.Rules.{rules}
-use Rattle.list_judging.proofs.ListLaws.{no_account, looked_up_lem}
+use Rattle.list_judging.proofs.ListLaws.{no_account, looked_up}
 use Rattle.list_judging.proofs.is_account_refused.Statement.{statement}
 use Rattle.list_judging.proofs.is_account_refused.Tie as tie
 
@@ -18,7 +18,7 @@ stands-earlier-requires : tie.Need-stands-earlier-requires
 stands-earlier-requires c κs = search rules
 
 returns-2 : tie.Need-returns-2
-returns-2 c = c.stands-earlier.ensures ∙ looked_up_lem _ _ c.before.if1.false
+returns-2 c = c.stands-earlier.ensures ∙ looked_up _ _ c.before.if1.false
 
 pub is-account-refused-spec : {M : Type 1} → statement M
 is-account-refused-spec =

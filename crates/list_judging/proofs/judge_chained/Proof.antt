@@ -9,7 +9,6 @@ use Rattle.series.specs.Results.{refused}
 use Rattle.series.specs.declared.Method.{Method}
 use Rattle.list_judging.specs.Chains.{Linked}
 use Rattle.rising_lists.proofs.ListLaws.{Judging, judging_start, refused-order, refused-account, refused-shorts, left-enough, judging_next, judged_all}
-use Rattle.list_judging.proofs.ListLaws.{taken_account}
 use Rattle.list_judging.proofs.judge_chained.Statement.{statement}
 use Rattle.list_judging.proofs.judge_chained.Tie as tie
 
@@ -53,7 +52,7 @@ returns-3 : tie.Need-returns-3 invariant-loop decreases-loop
 returns-3 c = let a = c.before.before.before.before.before.before.before.before.before.before.before.before.before.before.before.args in let l = c.before.before.before.before.before.before.before.before.before.before.before.loop in ap refused c.refuse-shorts.ensures ∙ refused-shorts Method.Wheel a.codes.now a.accounts.now a.shorts.now c.before.before.before.before.before.before.before.before.before.before.before.before.before.before.before.requires.0 l.before l.left l.i l.invariant.0 c.before.before.before.before.before.before.before.before.before.before.loop-test.true c.before.before.before.before.if1.false (sym c.before.before.before.before.before.is-account-refused.ensures ∙ c.before.before.before.if2.false) (sym c.before.before.is-refused.ensures ∙ c.before.if3.true)
 
 link-requires : tie.Need-link-requires invariant-loop decreases-loop
-link-requires c κs = (omega (arith, c.before.before.before.before.before.before.before.before.before.before.before.loop-test.true, c.before.before.before.before.before.before.before.before.before.before.before.before.before.before.before.before.requires.0.lengths), omega (arith, c.before.before.before.before.before.before.before.before.before.before.before.loop-test.true, c.before.before.before.before.before.before.before.before.before.before.before.before.before.before.before.before.requires.0.few), taken_account _ _ (sym c.before.before.before.before.before.before.is-account-refused.ensures ∙ c.before.before.before.before.if2.false), c.before.before.before.before.before.before.before.before.before.before.before.before.loop.invariant.1)
+link-requires c κs = (omega (arith, c.before.before.before.before.before.before.before.before.before.before.before.loop-test.true, c.before.before.before.before.before.before.before.before.before.before.before.before.before.before.before.before.requires.0.lengths), omega (arith, c.before.before.before.before.before.before.before.before.before.before.before.loop-test.true, c.before.before.before.before.before.before.before.before.before.before.before.before.before.before.before.before.requires.0.few), c.before.before.before.before.before.before.before.before.before.before.before.before.loop.invariant.1)
 
 sub-left : tie.Need-overflow-sub-left invariant-loop decreases-loop
 sub-left c = left-enough _ _ (sym c.before.before.before.before.is-refused.ensures ∙ c.before.before.before.if3.false)

@@ -8,7 +8,7 @@ use lib.ListN.{length, get_or}
 use borrow.Author.Tests.{ltb-true, ltb-false}
 use borrow.Author.Rules.{rules}
 use Rattle.merging.specs.Merging.{Position, accounts_of, added}
-use Rattle.merging.proofs.WalkLaws.{none, Walked, walked_start, account_at_lem, accounts-long, Step, step_first, step_second, step_both, walked_next, walked_count}
+use Rattle.merging.proofs.WalkLaws.{none, Walked, walked_start, account-at, accounts-long, Step, step_first, step_second, step_both, walked_next, walked_count}
 use Rattle.merging.proofs.count_merged.Statement.{statement}
 use Rattle.merging.proofs.count_merged.Tie as tie
 
@@ -38,7 +38,7 @@ turn c k l step ps qs e f =
     let loop = c.before.before.loop in
     let has = second_has c in
     let s =
-    step ps qs (omega (arith, accounts-long ps (first c.before.before) e, c.before.loop-test.true)) (omega (arith, accounts-long qs (second c.before.before) f)) (account_at_lem ps (first c.before.before) loop.i e) (account_at_lem qs (second c.before.before) loop.j f)
+    step ps qs (omega (arith, accounts-long ps (first c.before.before) e, c.before.loop-test.true)) (omega (arith, accounts-long qs (second c.before.before) f)) (account-at ps (first c.before.before) loop.i e) (account-at qs (second c.before.before) loop.j f)
     in
     walked_next ps qs loop.i loop.j loop.n (loop.invariant.1.1.1 ps qs e f) k l s.0 s.1
 

@@ -6,7 +6,7 @@ use Rattle.series.specs.Results.{Result}
 use Rattle.series.specs.Outputs.{lent}
 use Rattle.merging.specs.Merging.{Position, PositionList, list_of, positions, judged_merged, handed, merging_of, ListsMerged, merged_of}
 use Rattle.merging.proofs.WalkLaws.{paired-accounts}
-use Rattle.merging.proofs.CallLaws.{whole-total, Passed, passed, handed-from, refused-kept}
+use Rattle.merging.proofs.CallLaws.{whole-total, Passed, passed, handed-from, refused_kept}
 use borrow.Author.Rules.{rules}
 use Rattle.merging.proofs.merge_judged.Statement.{statement}
 use Rattle.merging.proofs.merge_judged.Tie as tie
@@ -56,7 +56,7 @@ enum-told-2 c = search rules
 returns : tie.Need-returns
 returns c =
     let j = c.before.before in
-    record { answered = answered j; written = refused-kept (outcome j) _ (started j).args.accounts.now (started j).args.shorts.now (sym (answered j) ∙ ap merging_of c.enum-told2.given.1) }
+    record { answered = answered j; written = refused_kept (outcome j) _ (started j).args.accounts.now (started j).args.shorts.now (sym (answered j) ∙ ap merging_of c.enum-told2.given.1) }
 
 write-merged-requires : tie.Need-write-merged-requires
 write-merged-requires c κs =

@@ -1,5 +1,6 @@
 -- `chains::link` meets its contract: the account becomes the last one of its bucket, before the one that was.
-use Rattle.list_judging.specs.Chains.{bucket, account_at}
+use lib.ListN.{get_or}
+use Rattle.list_judging.specs.Chains.{bucket}
 use Rattle.list_judging.proofs.ChainLaws.{chains_more}
 use borrow.Author.Rules.{rules}
 use Rattle.list_judging.proofs.chains.link.Statement.{statement}
@@ -39,7 +40,7 @@ element-write-head : tie.Need-element-write-head
 element-write-head c = search rules
 
 returns : tie.Need-returns
-returns c = let a = c.before.before.before.before.args in chains_more bucket (account_at a.accounts.now) a.head.now a.next.now a.position c.before.before.before.before.requires.3 c.before.bucket-of.result c.before.bucket-of.ensures.0 c.before.bucket-of.ensures.1 c.before.before.before.before.requires.1
+returns c = let a = c.before.before.before.before.args in chains_more bucket (λ j. get_or a.accounts.now j 0) a.head.now a.next.now a.position c.before.before.before.before.requires.2 c.before.bucket-of.result c.before.bucket-of.ensures.0 c.before.bucket-of.ensures.1 c.before.before.before.before.requires.1
 
 pub link-spec : {M : Type 1} → statement M
 link-spec =

@@ -5,7 +5,7 @@ use native.Mathlib.Omega.{arith}
 use borrow.Author.Tests.{not-true, not-false}
 use lib.ListN.{length, get_or}
 use Rattle.text_rules.proofs.FieldLaws.{digit_bounds}
-use Rattle.text_fields.proofs.FieldLaws.{NumberTo, number_start, number_small, number_more, number-long, number_other, number_none, number-end, number-empty, number_large}
+use Rattle.text_fields.proofs.FieldLaws.{NumberTo, number_start, number_small, number_more, number-long, number_other, number_none, number-end, number_empty, number_large}
 use Rattle.text_fields.proofs.number.read_number.Statement.{statement}
 use Rattle.text_fields.proofs.number.read_number.Tie as tie
 
@@ -33,7 +33,7 @@ returns-2 : tie.Need-returns-2 invariant-loop decreases-loop
 returns-2 c = let k = c.before.before.before.before.before.before.before.before in
     let a = k.args in
     let l = c.before.before.before.before.before.before.loop in
-    number-empty a.end a.text.now a.at l.i l.n l.invariant (omega arith) c.before.if2.false k.requires c.if3.true
+    number_empty a.end a.text.now a.at l.i l.n l.invariant (omega arith) c.before.if2.false k.requires c.if3.true
 
 returns-3 : tie.Need-returns-3 invariant-loop decreases-loop
 returns-3 c = let k = c.before.before.before.before.before.before.before.before.before in

@@ -4,7 +4,7 @@ use borrow.Author.Rules.{rules}
 use Rattle.series.specs.Ascii.{ascii}
 use Rattle.text_rules.specs.Names.{code_name}
 use Rattle.text_fields.specs.Parts.{LineRead}
-use Rattle.text_words.proofs.NameLaws.{after-code, without-code}
+use Rattle.text_words.proofs.NameLaws.{after_code, without_code}
 use Rattle.text_words.proofs.names.read_position_names.Statement.{statement}
 use Rattle.text_words.proofs.names.read_position_names.Tie as tie
 
@@ -25,14 +25,14 @@ read-account-name-requires c κs = search rules
 
 returns : tie.Need-returns
 unfolding code_name ascii
-returns c = without-code (subst (LineRead _ _ _) c.before.enum_told.given.1 c.before.before.before.skip-line.ensures) c.read-account-name.ensures
+returns c = without_code (subst (LineRead _ _ _) c.before.enum_told.given.1 c.before.before.before.skip-line.ensures) c.read-account-name.ensures
 
 read-account-name-requires-2 : tie.Need-read-account-name-requires-2
 read-account-name-requires-2 c κs = search rules
 
 returns-2 : tie.Need-returns-2
 unfolding code_name ascii
-returns-2 c = after-code (subst (LineRead _ _ _) c.before.before.next.given.1 c.before.before.before.before.skip-line.ensures) c.read-account-name2.ensures
+returns-2 c = after_code (subst (LineRead _ _ _) c.before.before.next.given.1 c.before.before.before.before.skip-line.ensures) c.read-account-name2.ensures
 
 pub read-position-names-spec : {M : Type 1} → statement M
 read-position-names-spec =
