@@ -1,4 +1,6 @@
 // The day's activity before assignment: how many contracts an investor or a market-maker may exercise on a day, and what an investor is long and short after it, by the sequence of source document 003.
+#![tactic(auto)]
+
 ghost use Rattle.std.specs.Prelude.{◌≡◌, ◌-◌};
 ghost use Rattle.activity_rules.specs.Activity.{ordinary_day, final_day, after_day, market_maker_limit, any_above, investor_counts, market_maker_counts, closes_above_short, investor_day, market_maker_day};
 ghost use Rattle.activity_rules.specs.Parts.{Counted};
@@ -7,14 +9,14 @@ ghost use Rattle.activity.specs.Answers.{investor_answer, market_maker_answer};
 pub use activity_rules::{AfterDay, Day, Investor, MarketMaker, Transactions};
 use series::{Contracts, Refusal};
 
-#[derive(Drop)]
+#[derive(Clone, Copy)]
 pub enum InvestorDay {
     After(AfterDay),
     Refused(Refusal),
 }
 
 // A market-maker gets the limit only.
-#[derive(Drop)]
+#[derive(Clone, Copy)]
 pub enum MarketMakerDay {
     Limit(Contracts),
     Refused(Refusal),

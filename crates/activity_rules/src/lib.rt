@@ -1,22 +1,24 @@
 // The day's activity as definitions (specs/) and laws about them (proofs/). Of the code they name what is given of a day, and what an investor gets.
+#![tactic(auto)]
+
 use series::Contracts;
 
 // The kinds of day: any but the final trading day, and that day.
-#[derive(Drop)]
+#[derive(Clone, Copy)]
 pub enum Day {
     Ordinary,
     Final,
 }
 
 // Purchases, or sales, of a day, marked as opening and as closing transactions.
-#[derive(Drop)]
+#[derive(Clone, Copy)]
 pub struct Transactions {
     pub opening: Contracts,
     pub closing: Contracts,
 }
 
 // What an investor (a firm or a customer) gives of a day: long and short at its opening, the transactions, and the contracts to exercise.
-#[derive(Drop)]
+#[derive(Clone, Copy)]
 pub struct Investor {
     pub long: Contracts,
     pub short: Contracts,
@@ -26,7 +28,7 @@ pub struct Investor {
 }
 
 // What a market-maker gives of a day, who does not mark his transactions.
-#[derive(Drop)]
+#[derive(Clone, Copy)]
 pub struct MarketMaker {
     pub long: Contracts,
     pub short: Contracts,
@@ -35,7 +37,7 @@ pub struct MarketMaker {
 }
 
 // What an investor gets: how many contracts he may exercise, and long and short after the day.
-#[derive(Drop)]
+#[derive(Clone, Copy)]
 pub struct AfterDay {
     pub limit: Contracts,
     pub long: Contracts,

@@ -1,4 +1,6 @@
 // Days of investors and of market-makers, a line for each: a label, and for an ordinary day and then the final trading day the limit with long and short after the day, or the refusal.
+#![tactic(auto)]
+
 use activity::{Day, Investor, InvestorDay, MarketMaker, MarketMakerDay, Transactions};
 use series::{Contracts, Refusal};
 

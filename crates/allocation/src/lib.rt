@@ -1,4 +1,6 @@
 // The allocating call: the wheel, the starting number and the remainder draw in private modules, pro rata in a crate of its own.
+#![tactic(auto)]
+
 mod lists;
 mod lottery;
 mod millionths;

@@ -7,7 +7,7 @@ ghost use Rattle.allocation.specs.Millionths.{millionths, Carried, SumFits};
 use series::Contracts;
 
 // So many whole contracts and, below one contract, so many millionths.
-#[derive(Drop)]
+#[derive(Clone, Copy)]
 pub struct Millionths {
     contracts: u32,
     decimals: u32,

@@ -7,7 +7,7 @@ ghost use Rattle.allocation.specs.Stretch.{Ends, Grown, Small, Stands, Ahead, As
 use series::{Contracts, Place};
 
 // Where a walk ends: in the position at, of which so many contracts are passed; or past the list, with so many left.
-#[derive(Drop)]
+#[derive(Clone, Copy)]
 pub struct Stop {
     pub at: usize,
     pub passed: Contracts,
@@ -75,7 +75,7 @@ pub fn pass(shorts: &[u32], passed: Contracts, count: Contracts) -> Stop
 }
 
 // A place on the wheel: the position that has it, and how many of the position's contracts stand before it.
-#[derive(Drop)]
+#[derive(Clone, Copy)]
 pub struct Cursor {
     pub at: usize,
     pub passed: Contracts,

@@ -13,7 +13,7 @@ use crate::places::{Cursor, assign_run, seek, skip_run};
 use series::{Contracts, Place};
 
 // Where the wheel stands, with its skip interval and the reserve.
-#[derive(Drop)]
+#[derive(Clone, Copy)]
 pub struct Wheel {
     pub cursor: Cursor,
     pub interval: Millionths,

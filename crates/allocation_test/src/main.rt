@@ -2,6 +2,8 @@
 // The calls stand in the file stdin, a line for each; a line that begins with `#` says what the next ones are.
 // A line is a label and a colon, a letter (a: allocated, b: allocated by last numbers, l: only the list is judged, m: only the list of last numbers is judged, j: the call is judged), the method's letter, and four lists, each ended by a semicolon: S, the draw, the room and, where it is not 25, the increment; codes; accounts; shorts or last numbers.
 // A space ends each number, and `4097*` stands for so many ones.
+#![tactic(auto)]
+
 ghost use Rattle.std.specs.Prelude.{◌≤◌, max, length};
 
 use forms::Form;
@@ -121,7 +123,7 @@ fn index_of(text: &[u8], at: usize, byte: u8) -> usize
 }
 
 // How many numbers a list has, and the index after it.
-#[derive(Drop)]
+#[derive(Clone, Copy)]
 struct Listed {
     length: usize,
     next: usize,

@@ -1,4 +1,6 @@
 // Between the numbers of C and the types of the calls: the form, and what an answer hands back.
+#![tactic(auto)]
+
 ghost use Rattle.std.specs.Prelude.{◌≡◌};
 ghost use Rattle.series.specs.Results.{value};
 ghost use Rattle.series.specs.Answers.{answer_of};
@@ -28,7 +30,7 @@ pub fn number_of(form: Form) -> u32
 }
 
 // What an answer hands back to C: T and the further number, 0 where there is none; or the number of the refusal.
-#[derive(Drop)]
+#[derive(Clone, Copy)]
 pub enum Numbers {
     Allocated { total: u32, further: u32 },
     Refused(u32),

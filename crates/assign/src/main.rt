@@ -1,4 +1,6 @@
 // Reads the text of a series from standard input, and writes to standard output its amounts or its refusal. Standard error is for people.
+#![tactic(auto)]
+
 ghost use Rattle.std.specs.Prelude.{length, ◌≤◌};
 ghost use Rattle.series.specs.Results.{status};
 ghost use Rattle.responses.specs.Printed.{text_or_refusal, printed, MOST_PRINTED};

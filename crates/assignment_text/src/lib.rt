@@ -1,4 +1,6 @@
 // From a text to the bytes that the program prints.
+#![tactic(auto)]
+
 mod ranges;
 
 ghost use Rattle.std.specs.Prelude.{◌≡◌, ◌≤◌, ◌++◌, length};

@@ -1,4 +1,6 @@
 // Reads a text from standard input, and writes it to standard output in the other form, or its refusal. Standard error is for people.
+#![tactic(auto)]
+
 ghost use Rattle.std.specs.Prelude.{length, ◌≤◌};
 ghost use Rattle.series.specs.Results.{status};
 ghost use Rattle.responses.specs.Responses.{response_of, Whole};

@@ -1,5 +1,7 @@
 // The standard streams of a program, and what it says to a person. A read or write that a signal interrupts is made again.
 // No contract can speak of a stream: each promises only how many bytes it counts at most. What it leaves open is said above it, with the tests of rust/compare/tests that cover it.
+#![tactic(auto)]
+
 ghost use Rattle.std.specs.Prelude.{length, ◌≡◌, ◌≤◌};
 ghost use Rattle.console.specs.Inputs.{Within};
 ghost use Rattle.responses.specs.Responses.{response_of};
@@ -10,7 +12,7 @@ use responses::Response;
 use series::Refusal;
 
 // What reading came to: a number of bytes, or a failure, which is never taken for the end of the input.
-#[derive(Drop)]
+#[derive(Clone, Copy)]
 pub enum Input {
     Bytes(usize),
     Failed,

@@ -1,4 +1,6 @@
 // The calls of the library for C and Rust, over numbers and slices. Each answers 0, or the number of a refusal of documents 01 and 02, and then nothing behind its arguments has changed.
+#![tactic(auto)]
+
 mod day;
 mod explain;
 mod merge;

@@ -1,4 +1,6 @@
 // The words for the number of a refusal, in one place.
+#![tactic(auto)]
+
 ghost use Rattle.std.specs.Prelude.{◌≡◌, ◌≤◌, length};
 ghost use Rattle.series.specs.Outputs.{onto_room};
 ghost use Rattle.explanation.specs.Explanation.{explanation, LONGEST as longest};

@@ -1,4 +1,6 @@
 // The change: from a text of either form to the text of the other.
+#![tactic(auto)]
+
 ghost use Rattle.std.specs.Prelude.{◌≡◌, ◌≤◌, length};
 ghost use Rattle.series.specs.Places.{total as total_of};
 ghost use Rattle.series.specs.Series.{MOST_CONTRACTS};

@@ -1,4 +1,6 @@
 // The form of a list: document 02's last numbers instead of counts.
+#![tactic(auto)]
+
 ghost use Rattle.std.specs.Prelude.{◌≡◌, ◌-◌, length, take};
 ghost use Rattle.series.specs.Answers.{number_of};
 ghost use Rattle.series.specs.Outputs.{onto};
@@ -7,7 +9,7 @@ ghost use Rattle.forms.specs.Forms.{differences, shorts_by, other_form, number_i
 use series::Refusal;
 
 // What a list has for each position: its shorts, or its last sequence number.
-#[derive(Drop)]
+#[derive(Clone, Copy)]
 pub enum Form {
     Shorts,
     LastNumbers,

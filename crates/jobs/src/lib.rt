@@ -1,4 +1,6 @@
 // Many series in one call (document 02): jobs over one pair of lists, each on its own stretch of them and of the output.
+#![tactic(auto)]
+
 ghost use Rattle.std.specs.Prelude.{◌≡◌, ℕ, List};
 ghost use Rattle.series.specs.Results.{status};
 ghost use Rattle.series.specs.Outputs.{lent};
@@ -18,7 +20,7 @@ const BEYOND: usize = 8_589_934_592;
 
 // What a job hands back: 0, T and the further number, or the number of its refusal, and then the other two are kept.
 #[repr(C)]
-#[derive(Drop)]
+#[derive(Clone, Copy)]
 pub struct JobAnswer {
     pub refusal: u32,
     pub total: u32,
@@ -27,7 +29,7 @@ pub struct JobAnswer {
 
 // One job: its first position counted from 0, its number of positions, the letter of its method, S, the draw, the increment, and a field for the answer.
 #[repr(C)]
-#[derive(Drop)]
+#[derive(Clone, Copy)]
 pub struct Job {
     pub first: u32,
     pub positions: u32,

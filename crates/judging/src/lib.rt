@@ -1,4 +1,6 @@
 // Judging a call, in the order of document 01's table, with document 02's 19, 23 and 24: T, or the first refusal that applies. The list is judged by the crate list_judging, whose `Judged` and `judge_list` are handed on.
+#![tactic(auto)]
+
 ghost use Rattle.std.specs.Prelude.{◌≡◌, not};
 ghost use Rattle.series.specs.Places.{OnWheel};
 ghost use Rattle.series.specs.Wheel.{MOST_INCREMENT};

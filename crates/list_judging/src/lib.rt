@@ -1,4 +1,6 @@
 // Judging a list, in the order of document 01's table, with document 02's 19: T, or the first refusal that applies. While its accounts rise it is judged by the crate rising_lists, whose `Judged` and `judge_by_account` are handed on.
+#![tactic(auto)]
+
 mod chains;
 
 ghost use Rattle.std.specs.Prelude.{◌<◌, ◌≡◌, length, get_or};

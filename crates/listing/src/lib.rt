@@ -1,4 +1,6 @@
 // The calls on a list in either form: judging it alone, and the allocating call.
+#![tactic(auto)]
+
 ghost use Rattle.std.specs.Prelude.{◌≡◌, length};
 ghost use Rattle.series.specs.Answers.{answer_of};
 ghost use Rattle.forms.specs.Forms.{in_form, list_verdict_in, ListingCall};

@@ -1,4 +1,6 @@
 // Merged lists (document 02): two lists of one series, both rising by account, into one.
+#![tactic(auto)]
+
 ghost use Rattle.std.specs.Prelude.{◌≡◌, ◌≤◌, List, length};
 ghost use Rattle.series.specs.Results.{value};
 ghost use Rattle.series.specs.Outputs.{lent};
@@ -13,7 +15,7 @@ use rising_lists::Judged;
 use series::{Contracts, Method, Refusal};
 
 // What merging answers: the number of positions of the merged list and its T, or a refusal.
-#[derive(Drop)]
+#[derive(Clone, Copy)]
 pub enum Merging {
     Merged { positions: usize, total: Contracts },
     Refused(Refusal),

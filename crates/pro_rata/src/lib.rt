@@ -1,4 +1,6 @@
 // Pro rata (P): the allocating call by it.
+#![tactic(auto)]
+
 mod rounds;
 
 ghost use Rattle.std.specs.Prelude.{ℕ, List};

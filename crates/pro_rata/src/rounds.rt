@@ -9,14 +9,14 @@ ghost use Rattle.pro_rata.specs.Rounds.{Exercised, units, HighLow, RoundOneDone,
 use series::Contracts;
 
 // The exercise percentage in units of the 17th decimal: high * 10^12 + low.
-#[derive(Drop)]
+#[derive(Clone, Copy)]
 pub struct Percentage {
     high: u64,
     low: u64,
 }
 
 // A position's assignment amount: its whole part, and its decimal part in units of the 5th decimal.
-#[derive(Drop)]
+#[derive(Clone, Copy)]
 pub struct Assignment {
     whole: u32,
     decimal: u32,
@@ -92,7 +92,7 @@ pub fn at_least(parts: &[u32], x: u32) -> u32
 }
 
 // The cut-off: the decimal part at which the remainder runs out, how many positions have a larger one, and how many this one.
-#[derive(Drop)]
+#[derive(Clone, Copy)]
 pub enum Cutoff {
     At { cut: u32, larger: u32, tied: u32 },
     Nothing,
@@ -132,7 +132,7 @@ pub fn cut_off(parts: &[u32], remainder: Contracts) -> Cutoff
 }
 
 // Round two by the cut-off: `served` of the `tied` positions get a contract, beginning with number `first` + 1.
-#[derive(Drop)]
+#[derive(Clone, Copy)]
 pub struct RoundTwo {
     cut: u32,
     tied: u32,

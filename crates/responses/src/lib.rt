@@ -1,4 +1,6 @@
 // What a call that prints answers, and the printing of a refusal.
+#![tactic(auto)]
+
 ghost use Rattle.std.specs.Prelude.{◌≡◌};
 ghost use Rattle.series.specs.Answers.{number_of};
 ghost use Rattle.text_writing.specs.Answers.{writing_of};
@@ -12,7 +14,7 @@ use text_writing::Writing;
 const REFUSED_LINE: [u8; 8] = *b"refused\n";
 
 // What a call that prints answers: how many bytes; or how many for a refusal, with the refusal, which is 4 with no bytes where the output is too short.
-#[derive(Drop)]
+#[derive(Clone, Copy)]
 pub enum Response {
     Printed(usize),
     Refused(usize, Refusal),

@@ -1,4 +1,6 @@
 // Judging a list while its accounts rise, in the order of document 01's table: T, the first refusal that applies, or that an account does not rise.
+#![tactic(auto)]
+
 ghost use Rattle.std.specs.Prelude.{◌≡◌, ◌||◌, cond, eqb, ltb};
 ghost use Rattle.series.specs.Refusals.{positions_verdict, list_verdict_for};
 ghost use Rattle.series.specs.Answers.{number_of};
@@ -8,14 +10,14 @@ ghost use Rattle.rising_lists.specs.Judged.{judged_of, WalkTells, FallsOnly, Fal
 use series::{Contracts, Refusal};
 
 // An accepted list with its total T, or the first refusal that applies.
-#[derive(Drop)]
+#[derive(Clone, Copy)]
 pub enum Judged {
     Accepted(Contracts),
     Refused(Refusal),
 }
 
 // What a walk over the positions answers: the verdict, or that an account does not rise.
-#[derive(Drop)]
+#[derive(Clone, Copy)]
 pub enum Walk {
     Judged(Judged),
     // An account is not above the one before it.

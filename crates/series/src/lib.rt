@@ -1,18 +1,20 @@
 // The vocabulary of document 01: what the calls of the library take and answer with.
+#![tactic(auto)]
+
 ghost use Rattle.std.specs.Prelude.{◌≡◌};
 ghost use Rattle.series.specs.Answers.{number_of};
 ghost use Rattle.series.specs.Series.{terms_of};
 
 // A place on the wheel, document 01's "place": counts from 1.
-#[derive(Drop)]
+#[derive(Clone, Copy)]
 pub struct Place(pub u32);
 
 // A number of contracts, as T, S, a position's shorts or an amount: counts from 0.
-#[derive(Drop)]
+#[derive(Clone, Copy)]
 pub struct Contracts(pub u32);
 
 // The methods: the wheel (W), pro rata (P), the starting number (L), the remainder draw (R).
-#[derive(Drop)]
+#[derive(Clone, Copy)]
 pub enum Method {
     Wheel,
     ProRata,
@@ -21,7 +23,7 @@ pub enum Method {
 }
 
 // What a call is given of a series beside its lists: the method, the contracts exercised (S), the draw and, for the wheel, the assignment increment.
-#[derive(Drop)]
+#[derive(Clone, Copy)]
 pub struct Terms {
     pub method: Method,
     pub exercised: Contracts,
@@ -45,7 +47,7 @@ pub fn terms_of(method: Method, exercised: Contracts, draw: u32, increment: Cont
 }
 
 // Why a call is turned away, in the order of the numbers of documents 01 and 02.
-#[derive(Drop)]
+#[derive(Clone, Copy)]
 pub enum Refusal {
     LengthsDiffer,
     TooManyPositions,
@@ -74,7 +76,7 @@ pub enum Refusal {
 }
 
 // What the allocating call answers: T with the method's one further number, or a refusal.
-#[derive(Drop)]
+#[derive(Clone, Copy)]
 pub enum Answer {
     // The number of blocks T1, 0 where S equals T.
     Wheel {

@@ -1,4 +1,6 @@
 // Reading the text of a series into three lent lists.
+#![tactic(auto)]
+
 mod lines;
 
 ghost use Rattle.std.specs.Prelude.{◌≡◌, ◌≤◌, ◌++◌, length, take, drop};
@@ -12,7 +14,7 @@ use series::{Refusal, Terms};
 use text_head::HeadLines;
 
 // What reading a text answers: its form, the values of line 2 and the number of positions, or a refusal.
-#[derive(Drop)]
+#[derive(Clone, Copy)]
 pub enum Reading {
     Series {
         form: Form,

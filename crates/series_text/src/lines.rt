@@ -7,7 +7,7 @@ use series::Refusal;
 use text_fields::row::{RowEnd, read_row};
 
 // How many positions were read.
-#[derive(Drop)]
+#[derive(Clone, Copy)]
 pub enum Positions {
     Read(usize),
     Refused(Refusal),

@@ -1,4 +1,6 @@
 // Reads, rewrites and changes texts, and prints what it got. A lent list holds 7s before the call, an output dots.
+#![tactic(auto)]
+
 ghost use Rattle.std.specs.Prelude.{◌≤◌, max, length};
 
 use forms::Form;

@@ -1,4 +1,6 @@
 // How L and R start, where their work starts, and what such a call answers.
+#![tactic(auto)]
+
 ghost use Rattle.std.specs.Prelude.{◌≡◌};
 ghost use Rattle.series.specs.Answers.{answer_of};
 ghost use Rattle.series.specs.Results.{value};
@@ -7,14 +9,14 @@ ghost use Rattle.starts.specs.Starts.{start_by, method_for, start_of};
 use series::{Answer, Contracts, Method, Place};
 
 // Where the work starts: at the starting place, or at none where none is needed.
-#[derive(Drop)]
+#[derive(Clone, Copy)]
 pub enum Start {
     At(Place),
     Undrawn,
 }
 
 // How a draw leads to a starting place.
-#[derive(Drop)]
+#[derive(Clone, Copy)]
 pub enum StartBy {
     // L: the draw in ten-thousandths of T, rounded up.
     TenThousandths,

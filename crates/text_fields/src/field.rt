@@ -4,14 +4,14 @@ ghost use Rattle.text_rules.specs.Fields.{ends};
 ghost use Rattle.text_fields.specs.Parts.{LineRead, EndFound};
 
 // The index after a line, where the text has it.
-#[derive(Drop)]
+#[derive(Clone, Copy)]
 pub enum Line {
     Ends(usize),
     Missing,
 }
 
 // The index of the byte that ends a field.
-#[derive(Drop)]
+#[derive(Clone, Copy)]
 pub enum Found {
     At(usize),
     Missing,

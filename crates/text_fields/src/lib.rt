@@ -1,4 +1,6 @@
 // The parts of a line, read: a fixed line, a field, and a row of numbers; and what reading and writing share of them.
+#![tactic(auto)]
+
 pub mod digits;
 pub mod ends;
 pub mod field;

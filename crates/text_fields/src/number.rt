@@ -5,7 +5,7 @@ ghost use Rattle.text_rules.specs.Fields.{ends};
 ghost use Rattle.text_fields.specs.Parts.{NumberRead};
 
 // A number, and the index of the byte after its field.
-#[derive(Drop)]
+#[derive(Clone, Copy)]
 pub enum Field {
     Number(u32, usize),
     Malformed,

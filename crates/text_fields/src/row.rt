@@ -8,7 +8,7 @@ use crate::field::{Found, find_end};
 use crate::number::{Field, read_number};
 
 // The index after a row of numbers, where there is one.
-#[derive(Drop)]
+#[derive(Clone, Copy)]
 pub enum RowEnd {
     At(usize),
     Malformed,

@@ -1,4 +1,6 @@
 // Reading lines 1 to 3 of a text.
+#![tactic(auto)]
+
 ghost use Rattle.std.specs.Prelude.{◌≡◌, ◌≤◌, length, drop};
 ghost use Rattle.std.proofs.Math.Seq.{slice};
 ghost use Rattle.series.specs.Results.{refused};
@@ -18,14 +20,14 @@ use text_words::names::{
 };
 
 // The values of line 2, and the index after it.
-#[derive(Drop)]
+#[derive(Clone, Copy)]
 pub enum TermsLine {
     Terms(Terms, usize),
     Refused(Refusal),
 }
 
 // Lines 1 to 3: the values of line 2, the form of the position lines, whether each begins with a code, and the index after them.
-#[derive(Drop)]
+#[derive(Clone, Copy)]
 pub enum HeadLines {
     Head(Terms, Form, bool, usize),
     Refused(Refusal),

@@ -6,7 +6,7 @@ ghost use Rattle.text_words.specs.Parts.{named_means};
 use series::Method;
 
 // The method that a letter names.
-#[derive(Drop)]
+#[derive(Clone, Copy)]
 pub enum Named {
     Method(Method),
     Unknown,

@@ -8,14 +8,14 @@ use text_fields::field::{Line, skip_line};
 use text_rules::{PositionColumns, TermsColumns};
 
 // The columns that line 1 names, with the index after it.
-#[derive(Drop)]
+#[derive(Clone, Copy)]
 pub enum TermsNames {
     Line(TermsColumns, usize),
     Unknown,
 }
 
 // The columns that line 3 names, with the index after it.
-#[derive(Drop)]
+#[derive(Clone, Copy)]
 pub enum PositionNames {
     Line(PositionColumns, usize),
     Unknown,

@@ -1,4 +1,6 @@
 // Writing texts: a series, one table or two, and a note.
+#![tactic(auto)]
+
 mod names;
 mod put;
 mod row;
@@ -20,7 +22,7 @@ use text_words::letters::letter_of;
 use text_words::names::terms_numbers;
 
 // What writing a text answers: its length, or a refusal.
-#[derive(Drop)]
+#[derive(Clone, Copy)]
 pub enum Writing {
     Written(usize),
     Refused(Refusal),
