@@ -347,6 +347,8 @@ def convert(crate, folder, fn):
         m = re.match(r".*?" + re.escape(name) + r" : tie\.Need-(\S+)( .*)?$", t)
         if m:
             need = norm(m.group(1))
+            if need not in fn.needs and need.startswith("overflow_"):
+                need = need[len("overflow_") :]
             if need not in fn.needs:
                 fn.todo.append(f"no goal {m.group(1)}: {eq[:200]}")
                 continue
