@@ -29,12 +29,30 @@ class Fn:
         self.at = {norm(o): a[0] for (o, n), a in zip(names["needs"], names["asked_at"])} if len(names["needs"]) == len(names["asked_at"]) else {}
         self.todo = []
         self.helpers = {}
+        self.chain = []
 
     def parent(self, p):
         return self.n["places"][self.index[p]][1]
 
     def step(self, place, fields):
-        """The new path of fields at a place, or None."""
+        """The new path of fields at a place, or at the nearest one on the way to the goal that has them, or None."""
+        found = self.step_at(place, fields)
+        if found or not self.chain:
+            return found
+        at = self.chain.index(place) if place in self.chain else 0
+        for k in sorted(range(len(self.chain)), key=lambda k: (abs(k - at), k)):
+            found = self.step_at(self.chain[k], fields)
+            if found:
+                return found
+        return None
+
+    def set_chain(self, place):
+        self.chain = []
+        while place is not None:
+            self.chain.append(place)
+            place = self.parent(place)
+
+    def step_at(self, place, fields):
         i = self.index[place]
         p = self.n["places"][i]
         f = fields[0]
@@ -51,8 +69,9 @@ class Fn:
                 return best[1]
         if norm(p[2][0]) == norm(f):
             rest = self.rest(i, p, fields[1:])
-            if arm and f.startswith("match"):
-                return ["c", arm[0]] + rest
+            for new, old, sub in arm[2] if arm else []:
+                if norm(old) == norm(f) and not sub and f.startswith("match"):
+                    return ["c", arm[0], new] + rest
             return ["c", p[2][1]] + rest
         return None
 
@@ -193,9 +212,7 @@ class Turner:
             if not m:
                 return place, fields, i
             if m.group(1) == "before" and not fields:
-                place = self.fn.parent(place)
-                if place is None:
-                    return None
+                place = self.fn.parent(place) or place
             else:
                 fields.append(m.group(1))
             i = m.end()
@@ -363,6 +380,7 @@ def convert(crate, folder, fn):
                 continue
             place = fn.at.get(need)
             turner = Turner(fn, helpers)
+            fn.set_chain(place)
             made = turner.turn(body, {params[0]: (place, [])})
             asked = fn.n["asked"].get(old)
             if asked and len(asked) > 1:

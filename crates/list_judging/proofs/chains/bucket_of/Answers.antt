@@ -1,0 +1,10 @@
+-- `chains::bucket_of` meets its contract.
+use mathlib.Core.Path.{refl}
+use native.Mathlib.Omega.{arith}
+use borrow.Author.Rules.{rules}
+use Rattle.list_judging.specs.Chains.{bucket}
+use Rattle.list_judging.proofs.chains.bucket_of.Goals as goal
+
+pub returns : goal.returns
+unfolding bucket
+returns c = (refl, omega arith)
