@@ -14,7 +14,7 @@ fn put(words: &[u8], line: &mut [u8]) -> usize
     ensures line_after { line.new ≡ onto_room words.now line.old }
 {
     if words.len() <= line.len() {
-        bytes::copy(words, line);
+        line[..words.len()].copy_from_slice(words);
     }
     words.len()
 }
