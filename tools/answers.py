@@ -30,6 +30,7 @@ class Fn:
         self.todo = []
         self.helpers = {}
         self.chain = []
+        self.negated = False
 
     def parent(self, p):
         return self.n["places"][self.index[p]][1]
@@ -131,7 +132,11 @@ class Turner:
                         self.fn.todo.append(f"{place}.{'.'.join(fields)}")
                         out.append("TODO-" + place + "." + ".".join(fields))
                     else:
-                        out.append(".".join(new))
+                        path = ".".join(new)
+                        if len(new) == 3 and new[1].startswith("if-not-"):
+                            self.fn.negated = True
+                            path = f"(ap not {path})"
+                        out.append(path)
                 else:
                     out.append("c")
                 i = j
@@ -468,6 +473,10 @@ def main():
         if ans or plain:
             imp = [f"use {base}.Invariants.{{{', '.join(shared)}}}"] if shared and re.search("|".join(r"(?<![\w.'-])" + re.escape(s) + r"(?![\w'-])" for s in shared), "\n".join(ans + plain)) else []
             with open(os.path.join(folder, "Answers.antt"), "w", encoding="utf-8") as f:
+                if fn.negated:
+                    for mod, word in (("mathlib.Core.Path", "ap"), ("mathlib.Core.Bool", "not")):
+                        if not any(re.search(r"[{ ]" + word + r"[,}]", u) for u in uses):
+                            imp.append(f"use {mod}.{{{word}}}")
                 f.write((head + "\n" if head else "") + "\n".join(uses + imp) + f"\nuse {base}.Goals as goal\n\n" + "\n\n".join(plain + ans) + "\n")
         print(f"{path}: {len(inv)} loops, {len(ans)} answers, {len(plain) + len(both)} helpers" + "".join("\n    left: " + t for t in fn.todo))
     return 0
