@@ -8,7 +8,7 @@ use Rattle.allocation.proofs.BlockLaws.{whole-blocks, blocks_fit, blocks_give, u
 use Rattle.allocation.proofs.wheel.assign.Goals as goal
 
 pub returns-then-exercised-total : goal.returns-then-exercised-total
-returns-then-exercised-total c = record { value = used_whole _ _ _ c.if-exercised-total.true; amounts_after = (c.copy.ensures ∙ sym (wheel-whole _ _ _ _ (c.if-exercised-total.true ∙ c.requires.judged_series.sum)), ) }
+returns-then-exercised-total c = record { value = used_whole _ _ _ c.if-exercised-total.true; amounts_after = c.copy.ensures ∙ sym (wheel-whole _ _ _ _ (c.if-exercised-total.true ∙ c.requires.judged_series.sum)) }
 
 pub seek-requires : goal.seek-requires
 seek-requires c = rw (← c.requires.judged_series.sum) (c.requires.on_wheel c.if-exercised-total.false)
@@ -20,4 +20,4 @@ pub assign_blocks-requires : goal.assign_blocks-requires
 assign_blocks-requires c = blocks_fit _ _ _ _ _ _ _ _ _ _ c.requires.judged_series c.requires.increment (omega (arith, c.requires.judged_series.most)) c.seek.ensures c.clear.ensures c.block_count-blocks.ensures c.last_block-last.ensures c.interval.ensures.0 c.interval.ensures.1 c.zero.ensures
 
 pub returns : goal.returns
-returns c = record { value = c.block_count-blocks.ensures ∙ used_part _ _ _ (omega (arith, c.requires.judged_series.most)); amounts_after = (blocks_give _ _ _ _ _ _ _ _ _ _ c.requires.judged_series c.requires.increment (omega (arith, c.requires.judged_series.most)) c.seek.ensures c.clear.ensures c.block_count-blocks.ensures c.last_block-last.ensures c.interval.ensures.0 c.interval.ensures.1 c.zero.ensures _ c.assign_blocks.ensures, ) }
+returns c = record { value = c.block_count-blocks.ensures ∙ used_part _ _ _ (omega (arith, c.requires.judged_series.most)); amounts_after = blocks_give _ _ _ _ _ _ _ _ _ _ c.requires.judged_series c.requires.increment (omega (arith, c.requires.judged_series.most)) c.seek.ensures c.clear.ensures c.block_count-blocks.ensures c.last_block-last.ensures c.interval.ensures.0 c.interval.ensures.1 c.zero.ensures _ c.assign_blocks.ensures }
