@@ -3,10 +3,8 @@ use Prim.Native.Nat.{ℕ, ◌≤◌}
 use mathlib.Core.Path.{◌≡◌, refl, sym, ap, ◌∙◌}
 use mathlib.Core.Bool.{true}
 use mathlib.Core.List.{List, [], ◌∷◌, ◌++◌, append-nil}
-use mathlib.Core.Logic.{⊎_elim}
 use native.Mathlib.Omega.{arith}
 use borrow.Author.Tests.{eq-eqb, le-ltb}
-use denote.Enum.Declared.{tag_of}
 use Rattle.series.specs.declared.Refusal.{Refusal}
 use lib.Dec.{eqb}
 use lib.ListN.{length, drop}
@@ -24,8 +22,6 @@ use Rattle.series.specs.Call.{assigned, further, answer, output}
 use Rattle.series.specs.declared.Answer.{Answer}
 use Rattle.series.specs.declared.Method.{Method}
 use Rattle.series.specs.declared.Terms.{Terms}
-use Rattle.series.specs.contracts.Answer.{the_type}
-use Rattle.series.specs.contracts.Method.{the_type as the-method}
 use Rattle.series.proofs.ResultLaws.{never, value_is}
 use Rattle.series.proofs.SumLaws.{length-listed}
 use Rattle.series.proofs.AcceptedLaws.{accepted_facts, verdict_accepted}

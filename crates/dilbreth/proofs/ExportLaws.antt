@@ -10,7 +10,6 @@ use Rattle.series.specs.Results.{Result, refused, value, refuse, after, status}
 use Rattle.series.specs.Outputs.{onto, onto_room, Lent, lent}
 use Rattle.series.specs.Series.{terms_of}
 use Rattle.series.specs.Answers.{Allocation, handed_back}
-use Rattle.series.specs.Call.{output}
 use Rattle.series.specs.declared.Method.{Method}
 use Rattle.series.specs.declared.Terms.{Terms}
 use Rattle.forms.specs.Forms.{Listing, ListingCall}

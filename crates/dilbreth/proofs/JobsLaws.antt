@@ -1,6 +1,6 @@
 -- A job of `dilbreth_allocate_jobs` and the same job by `dilbreth_allocate`.
 use Prim.Native.Nat.{ℕ}
-use mathlib.Core.Path.{◌≡◌, refl, sym, ap, ◌∙◌}
+use mathlib.Core.Path.{◌≡◌, refl, ◌∙◌}
 use mathlib.Core.List.{List}
 use lib.ListN.{length}
 use Rattle.series.specs.Results.{Result, refused, value, ◌>>=◌, after}
@@ -15,7 +15,6 @@ use Rattle.answer_numbers.specs.Numbers.{form_by}
 use Rattle.text_rules.specs.Letters.{method_by}
 use Rattle.jobs.specs.Jobs.{job_series, job_answer, job_output, recorded}
 use Rattle.jobs.specs.declared.Job.{Job}
-use Rattle.jobs.specs.declared.JobAnswer.{JobAnswer}
 use Rattle.dilbreth.specs.Exports.{listing_by, called, Allocates}
 
 -- a call on shorts is answered as it is

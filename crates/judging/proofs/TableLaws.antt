@@ -10,7 +10,7 @@ use lib.Dec.{ltb, leb}
 use lib.ListN.{length}
 use borrow.Author.Tests.{lt-ltb, le-ltb, le-leb, lt-leb, eq-eqb, ne_eqb}
 use Rattle.series.specs.Results.{Result, refused, value, ◌>>=◌}
-use Rattle.series.specs.Series.{Series, method, exercised, held, ordered_by, order}
+use Rattle.series.specs.Series.{Series, method, held, ordered_by, order}
 use Rattle.series.specs.Places.{OnWheel}
 use Rattle.series.specs.Wheel.{MOST_INCREMENT, MOST_BLOCKS, blocks}
 use Rattle.series.specs.Refusals.{Row, ◌⟶◌∣◌, first, NoneApplies, exercised_rows, outside, too_many_blocks, increment_rows, terms_rows, undrawn, draw_rows, then_draw_rows, list_rows, rows, verdict, list_verdict_for}

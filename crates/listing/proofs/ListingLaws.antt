@@ -9,7 +9,7 @@ use native.Mathlib.Omega.{arith}
 use lib.ListN.{length}
 use Rattle.series.specs.Results.{Result, refused, value, ◌>>=◌, after}
 use Rattle.series.specs.Outputs.{onto}
-use Rattle.series.specs.Series.{Series, MOST_POSITIONS, method}
+use Rattle.series.specs.Series.{Series, MOST_POSITIONS}
 use Rattle.series.specs.Refusals.{list_verdict}
 use Rattle.series.specs.Answers.{Allocation, answer_of}
 use Rattle.series.specs.Call.{answer, output, further, assigned}

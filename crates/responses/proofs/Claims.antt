@@ -5,10 +5,9 @@ use mathlib.Core.Path.{◌≡◌, refl}
 use mathlib.Core.List.{List, [], ◌∷◌, map}
 use Rattle.series.specs.Ascii.{ascii}
 use Rattle.series.specs.Results.{Result}
-use Rattle.series.specs.Places.{last}
 use Rattle.series.specs.Series.{Series}
 use Rattle.series.specs.RemainderDraw.{first_range, second_range}
-use Rattle.series.specs.Refusals.{first, verdict}
+use Rattle.series.specs.Refusals.{verdict}
 use Rattle.series.proofs.Starred.{called_on}
 use Rattle.forms.specs.Forms.{differences}
 use Rattle.text_rules.specs.Numbers.{digit, digits, spelled, amount_from, amount, numeral, number, decimal_in, decimal}

@@ -15,7 +15,7 @@ use Rattle.series.specs.RemainderDraw.{remainder_place}
 use Rattle.series.specs.Refusals.{Row, ◌⟶◌∣◌, first, NoneApplies, length_rows, room_rows, position_rows, exercised_rows, outside, increment_rows, undrawn, draw_rows, then_draw_rows, terms_rows, list_rows, rows, verdict}
 use Rattle.series.specs.Call.{assigned}
 use Rattle.series.specs.declared.Method.{Method}
-use Rattle.series.specs.declared.Method.TheVariants.{Wheel, ProRata, Lottery}
+use Rattle.series.specs.declared.Method.TheVariants.{Wheel, Lottery}
 use Rattle.series.specs.declared.Terms.{Terms}
 use Rattle.series.proofs.ResultLaws.{never, stepped}
 use Rattle.series.proofs.RowLaws.{first-append, value_passed, value_same}

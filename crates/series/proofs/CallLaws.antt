@@ -10,7 +10,7 @@ use lib.ListN.{length}
 use borrow.Author.Tests.{ltb-false, ne_eqb}
 use Rattle.series.specs.Results.{value}
 use Rattle.series.specs.Places.{OnWheel}
-use Rattle.series.specs.Series.{Series, method, exercised, held, by_method, order}
+use Rattle.series.specs.Series.{Series, method, held, by_method, order}
 use Rattle.series.specs.Lottery.{starting_place, unstarted}
 use Rattle.series.specs.Refusals.{NoneApplies, length_rows, room_rows, position_rows, exercised_rows, increment_rows, undrawn, draw_rows, then_draw_rows, terms_rows, list_rows, rows, verdict}
 use Rattle.series.specs.declared.Method.{Method}

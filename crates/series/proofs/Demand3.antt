@@ -9,7 +9,7 @@ use native.Mathlib.Omega.{arith}
 use native.Mathlib.Decide.{ℕ_discrete}
 use lib.ListN.{length, get_or, drop}
 use lib.Seq.{take_at}
-use Rattle.series.specs.Results.{Result, refused, value, ◌>>=◌}
+use Rattle.series.specs.Results.{Result, refused, value}
 use Rattle.series.specs.Outputs.{onto}
 use Rattle.series.specs.Sums.{sum_below}
 use Rattle.series.specs.Places.{total, run, marked, OnWheel, over_places}

@@ -1,12 +1,12 @@
 -- Laws of bytes that are put into a text.
-use Prim.Native.Nat.{ℕ, suc, ◌+◌, ◌-◌, ◌/◌, ◌%◌, ◌≤◌, ◌<◌}
+use Prim.Native.Nat.{ℕ, suc, ◌+◌, ◌/◌, ◌%◌, ◌≤◌, ◌<◌}
 use mathlib.Core.Path.{◌≡◌, refl, sym, ap, ◌∙◌}
 use mathlib.Core.List.{List, [], ◌∷◌, ◌++◌, append_assoc, append-nil}
 use native.Mathlib.Omega.{arith}
 use native.Mathlib.Nat.{zero-add, add-zero}
 use native.Mathlib.Numerals.{add-one}
 use lib.ListN.{length, get_or, take, drop, set, length-append, length-drop, length-set, take-append-drop}
-use lib.Seq.{paste, take_all, take_at, take-length, drop-length, take-suc, drop-drop, take-paste, drop-paste, length-paste, set_split, set_at, length-take-le, append_snoc}
+use lib.Seq.{paste, take_at, take-length, drop-length, take-suc, drop-drop, take-paste, drop-paste, length-paste, set_split, set_at, length-take-le, append_snoc}
 use borrow.Rule.Slice.PartMut.{put_mid, post_of}
 use Rattle.series.specs.Outputs.{onto}
 use Rattle.text_rules.specs.Numbers.{decimal}

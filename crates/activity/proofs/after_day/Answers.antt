@@ -1,7 +1,6 @@
 -- `after_day` meets its contract: what the kind of day gives.
 use mathlib.Core.Path.{sym, ap, ◌∙◌}
 use Rattle.activity_rules.specs.Activity.{after_day}
-use borrow.Author.Rules.{rules}
 use Rattle.activity.proofs.after_day.Goals as goal
 
 pub returns-in-Ordinary : goal.returns-in-Ordinary

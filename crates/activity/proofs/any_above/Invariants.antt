@@ -1,12 +1,8 @@
 -- `any_above` meets its contract. The invariant: no count passed is above the most. The measure is what is left of the list.
 use Prim.Native.Nat.{◌-◌, ◌≤◌}
-use mathlib.Core.Path.{◌≡◌, refl, sym, ◌∙◌}
-use native.Mathlib.Numerals.{add-one}
-use native.Mathlib.Omega.{arith}
-use borrow.Author.Rules.{rules}
+use mathlib.Core.Path.{◌≡◌}
 use lib.ListN.{length, drop}
 use Rattle.activity_rules.specs.Activity.{any_above}
-use Rattle.activity_rules.proofs.CountLaws.{above-found, above_passed, above-end}
 use Rattle.activity.proofs.any_above.Given as goal
 
 abbrev pub invariant-loop-i : goal.invariant-loop-i

@@ -2,7 +2,6 @@
 use native.Mathlib.Omega.{arith}
 use Rattle.activity_rules.specs.Activity.{final_day}
 use Rattle.activity_rules.proofs.DayLaws.{after_is}
-use borrow.Author.Rules.{rules}
 use Rattle.activity.proofs.final_day.Goals as goal
 
 pub returns : goal.returns

@@ -3,7 +3,6 @@ use mathlib.Core.Path.{◌≡◌, sym, ap, ◌∙◌}
 use native.Mathlib.Omega.{arith}
 use Rattle.activity_rules.specs.Activity.{market_maker_limit}
 use Rattle.activity_rules.specs.declared.Day.{Day}
-use borrow.Author.Rules.{rules}
 use Rattle.activity.proofs.market_maker_limit.Goals as goal
 
 pub returns-in-Ordinary : goal.returns-in-Ordinary

@@ -2,7 +2,6 @@
 use native.Mathlib.Omega.{arith}
 use Rattle.activity_rules.specs.Activity.{ordinary_day}
 use Rattle.activity_rules.proofs.DayLaws.{after_is}
-use borrow.Author.Rules.{rules}
 use Rattle.activity.proofs.ordinary_day.Goals as goal
 
 pub returns : goal.returns

@@ -2,7 +2,6 @@
 use mathlib.Core.Path.{sym, ◌∙◌}
 use Rattle.activity_rules.proofs.CountLaws.{counted}
 use Rattle.activity_rules.proofs.DayLaws.{refused_count, refused_closing, refused-exercised, processed}
-use borrow.Author.Rules.{rules}
 use Rattle.activity.proofs.process_investor.Goals as goal
 
 pub returns-then-investor_above : goal.returns-then-investor_above

@@ -2,7 +2,6 @@
 use mathlib.Core.Path.{sym, ◌∙◌}
 use Rattle.activity_rules.proofs.CountLaws.{counted}
 use Rattle.activity_rules.proofs.DayLaws.{maker_refused, maker_limited}
-use borrow.Author.Rules.{rules}
 use Rattle.activity.proofs.process_market_maker.Goals as goal
 
 pub returns-then-market_maker_above : goal.returns-then-market_maker_above

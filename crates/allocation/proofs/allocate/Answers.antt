@@ -1,7 +1,6 @@
 -- `allocate` meets its contract: the call is that of the method.
 -- where the method is looked at
 use mathlib.Core.Path.{refl, sym, ap, ◌∙◌}
-use borrow.Author.Rules.{rules}
 use Rattle.series.proofs.IncrementLaws.{call_with_increment}
 use Rattle.starts.specs.Starts.{method_for}
 use Rattle.starts.proofs.StartLaws.{started_method}

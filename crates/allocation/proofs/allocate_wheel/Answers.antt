@@ -1,6 +1,5 @@
 -- `allocate_wheel` meets its contract: a refused call keeps its output, any other is assigned by the wheel.
 -- the series of the call
-use borrow.Author.Rules.{rules}
 use mathlib.Core.Path.{◌≡◌, refl, sym, ap, ◌∙◌}
 use lib.ListN.{length}
 use lib.Seq.{length-take-le}

@@ -1,7 +1,6 @@
 -- `number_of` meets its contract.
 use mathlib.Core.Path.{refl}
 use Rattle.answer_numbers.specs.Numbers.{form_number}
-use borrow.Author.Rules.{rules}
 use Rattle.answer_numbers.proofs.number_of.Goals as goal
 
 pub returns-in-Shorts : goal.returns-in-Shorts

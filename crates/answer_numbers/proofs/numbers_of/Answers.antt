@@ -1,7 +1,6 @@
 -- `numbers_of` meets its contract: each answer's own numbers.
 use mathlib.Core.Path.{refl}
 use Rattle.answer_numbers.specs.Numbers.{handed_numbers}
-use borrow.Author.Rules.{rules}
 use Rattle.answer_numbers.proofs.numbers_of.Goals as goal
 
 pub returns-in-Wheel : goal.returns-in-Wheel

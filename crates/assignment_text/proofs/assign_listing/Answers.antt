@@ -1,6 +1,5 @@
 -- `assign_listing` meets its contract: the shorts stand in the place of the numbers.
 use Rattle.assignment_text.proofs.PrintLaws.{shorts_as}
-use borrow.Author.Rules.{rules}
 use Rattle.assignment_text.proofs.assign_listing.Goals as goal
 
 pub returns : goal.returns

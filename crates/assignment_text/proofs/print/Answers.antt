@@ -4,7 +4,6 @@ use Rattle.series.specs.Ascii.{ascii}
 use Rattle.responses.specs.Printed.{assigned_lines}
 use Rattle.responses.proofs.ResponseLaws.{allocation_printed}
 use Rattle.assignment_text.proofs.PrintLaws.{table_is}
-use borrow.Author.Rules.{rules}
 use Rattle.assignment_text.proofs.print.Goals as goal
 
 pub returns : goal.returns

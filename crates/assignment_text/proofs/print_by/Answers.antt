@@ -2,7 +2,6 @@
 use mathlib.Core.List.{append-nil}
 use Rattle.responses.specs.Printed.{ranges_by}
 use Rattle.assignment_text.proofs.PrintLaws.{none_ranged}
-use borrow.Author.Rules.{rules}
 use Rattle.assignment_text.proofs.print_by.Goals as goal
 
 pub returns-in-RemainderDraw : goal.returns-in-RemainderDraw

@@ -5,7 +5,6 @@ use Rattle.series.specs.Ascii.{ascii}
 use Rattle.responses.specs.Printed.{assigned_lines, range_lines}
 use Rattle.responses.proofs.ResponseLaws.{allocation_printed}
 use Rattle.assignment_text.proofs.PrintLaws.{tables_are}
-use borrow.Author.Rules.{rules}
 use Rattle.assignment_text.proofs.print_ranges.Goals as goal
 
 pub returns : goal.returns

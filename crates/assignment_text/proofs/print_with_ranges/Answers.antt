@@ -1,7 +1,6 @@
 -- `print_with_ranges` meets its contract: the lists that it lends have a number for each position.
 use mathlib.Core.Path.{sym}
 use lib.Seq.{length-take-le}
-use borrow.Author.Rules.{rules}
 use Rattle.assignment_text.proofs.print_with_ranges.Goals as goal
 
 pub slice_bounds-print_ranges-end : goal.slice_bounds-print_ranges-end

@@ -3,7 +3,6 @@
 use mathlib.Core.Path.{sym, ap, ◌∙◌}
 use Rattle.series_text.specs.Answers.{reading_of}
 use Rattle.dilbreth.proofs.ExportLaws.{read_hands}
-use borrow.Author.Rules.{rules}
 use Rattle.dilbreth.proofs.dilbreth_read.Goals as goal
 
 pub returns-in-Series : goal.returns-in-Series

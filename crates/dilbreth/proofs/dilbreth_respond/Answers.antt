@@ -3,7 +3,6 @@ use mathlib.Core.Path.{ap}
 use native.Mathlib.Omega.{arith}
 use Rattle.responses.specs.Responses.{response_of}
 use Rattle.dilbreth.proofs.ExportLaws.{respond_whole, respond_none}
-use borrow.Author.Rules.{rules}
 use Rattle.dilbreth.proofs.dilbreth_respond.Goals as goal
 
 pub returns-then-n-eq0 : goal.returns-then-n-eq0

@@ -2,7 +2,6 @@
 use mathlib.Core.Path.{sym, ap, ◌∙◌}
 use Rattle.text_words.specs.Parts.{named_means}
 use Rattle.dilbreth.proofs.ExportLaws.{write_unknown, write_known}
-use borrow.Author.Rules.{rules}
 use Rattle.dilbreth.proofs.dilbreth_write.Goals as goal
 
 pub returns-in_default : goal.returns-in_default

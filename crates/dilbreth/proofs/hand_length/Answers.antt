@@ -1,6 +1,5 @@
 -- `hand_length` meets its contract.
 use mathlib.Core.Path.{refl}
-use borrow.Author.Rules.{rules}
 use Rattle.dilbreth.proofs.hand_length.Goals as goal
 
 pub returns-in-Refused : goal.returns-in-Refused

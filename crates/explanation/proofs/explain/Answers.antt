@@ -3,7 +3,6 @@ use mathlib.Core.Path.{ap}
 use Rattle.series.specs.Ascii.{ascii}
 use Rattle.explanation.specs.Explanation.{refusals, no_refusal, explanation}
 use Rattle.explanation.proofs.ExplanationLaws.{no_refusal_lem, told}
-use borrow.Author.Rules.{rules}
 use Rattle.explanation.proofs.explain.Goals as goal
 
 pub returns-in-1 : goal.returns-in-1

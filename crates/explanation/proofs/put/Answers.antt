@@ -4,7 +4,6 @@ use mathlib.Core.List.{◌++◌}
 use lib.ListN.{length, drop}
 use lib.Seq.{take-length}
 use Rattle.explanation.proofs.ExplanationLaws.{copied, kept}
-use borrow.Author.Rules.{rules}
 use Rattle.explanation.proofs.put.Goals as goal
 
 pub returns-then-words-line : goal.returns-then-words-line

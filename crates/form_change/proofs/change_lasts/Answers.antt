@@ -3,14 +3,12 @@
 use mathlib.Core.Path.{sym, ap, ◌∙◌}
 use lib.ListN.{length}
 use Rattle.series.specs.Refusals.{list_verdict}
-use Rattle.forms.specs.Forms.{Listing}
 use Rattle.forms.specs.declared.Form.{Form}
 use Rattle.forms.proofs.FillLaws.{fill_whole}
 use Rattle.text_rules.specs.Calls.{changed_into}
 use Rattle.rising_lists.specs.Judged.{judged_of}
 use Rattle.text_rules.proofs.WritingLaws.{refused-writes}
 use Rattle.form_change.proofs.CallLaws.{list-refused, written_other}
-use borrow.Author.Rules.{rules}
 use Rattle.form_change.proofs.change_lasts.Goals as goal
 
 pub returns-in-Refused : goal.returns-in-Refused

@@ -1,5 +1,4 @@
 -- `change_list` meets its contract.
-use borrow.Author.Rules.{rules}
 use Rattle.form_change.proofs.change_list.Goals as goal
 
 pub returns-in-Shorts : goal.returns-in-Shorts

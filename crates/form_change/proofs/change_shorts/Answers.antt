@@ -7,7 +7,6 @@ use Rattle.text_rules.specs.Calls.{changed_into}
 use Rattle.rising_lists.specs.Judged.{judged_of}
 use Rattle.text_rules.proofs.WritingLaws.{refused-writes}
 use Rattle.form_change.proofs.CallLaws.{judged_small, list-refused, written_other}
-use borrow.Author.Rules.{rules}
 use Rattle.form_change.proofs.change_shorts.Goals as goal
 
 pub fill_lasts-requires : goal.fill_lasts-requires

@@ -1,9 +1,6 @@
 -- `fill_lasts` meets its contract. The loop's invariant: the last numbers of the positions passed are filled in.
-use Prim.Native.Nat.{◌-◌}
 use native.Mathlib.Omega.{arith}
-use lib.ListN.{length}
-use borrow.Author.Rules.{rules}
-use Rattle.form_change.proofs.FillLaws.{Summing, sum_start, sum-long, sum_fits, sum-next, sum-end}
+use Rattle.form_change.proofs.FillLaws.{sum_start, sum-long, sum_fits, sum-next, sum-end}
 use Rattle.form_change.proofs.fill_lasts.Goals as goal
 
 pub loop-i-init : goal.loop-i-init

@@ -1,9 +1,8 @@
 -- `fill_shorts` meets its contract. The loop's invariant: the shorts of the positions passed are filled in.
-use Prim.Native.Nat.{◌+◌, ◌-◌}
+use Prim.Native.Nat.{◌+◌}
 use mathlib.Core.Path.{sym, subst}
 use native.Mathlib.Omega.{arith}
-use lib.ListN.{length, get_or, set}
-use borrow.Author.Rules.{rules}
+use lib.ListN.{get_or, set}
 use Rattle.forms.proofs.FillLaws.{Filling, fill_start, fill_long, fill_next, fill_end, fill_full}
 use Rattle.forms.proofs.fill_shorts.Goals as goal
 

@@ -1,7 +1,6 @@
 -- `refusal_in` meets its contract.
 use mathlib.Core.Path.{sym, ◌∙◌}
 use Rattle.forms.proofs.FormLaws.{as_it_is, twenty_for_six, as_other}
-use borrow.Author.Rules.{rules}
 use Rattle.forms.proofs.refusal_in.Goals as goal
 
 pub returns-then-number-eq6 : goal.returns-then-number-eq6

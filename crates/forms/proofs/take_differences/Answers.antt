@@ -1,9 +1,6 @@
 -- `take_differences` meets its contract. The loop's invariant: the shorts of the positions passed stand in their places.
-use Prim.Native.Nat.{◌-◌}
 use native.Mathlib.Omega.{arith}
-use lib.ListN.{length}
-use borrow.Author.Rules.{rules}
-use Rattle.forms.proofs.FillLaws.{Filling, fill_start, fill_long, fill_step, fill_over}
+use Rattle.forms.proofs.FillLaws.{fill_start, fill_long, fill_step, fill_over}
 use Rattle.forms.proofs.take_differences.Goals as goal
 
 pub loop-i-init : goal.loop-i-init

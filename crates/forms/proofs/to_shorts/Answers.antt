@@ -1,5 +1,4 @@
 -- `to_shorts` meets its contract.
-use borrow.Author.Rules.{rules}
 use Rattle.forms.proofs.to_shorts.Goals as goal
 
 pub returns-in-LastNumbers : goal.returns-in-LastNumbers

@@ -2,7 +2,6 @@
 use borrow.Author.Tests.{lt-ltb, le-ltb, eq-eqb, ne_eqb}
 use Rattle.series.specs.Refusals.{first}
 use Rattle.jobs.proofs.JudgeLaws.{judged}
-use borrow.Author.Rules.{rules}
 use Rattle.jobs.proofs.judge.Goals as goal
 
 pub returns-then-accounts-shorts : goal.returns-then-accounts-shorts

@@ -1,5 +1,4 @@
 -- `last_end` meets its contract: by what holds after so many records.
-use native.Mathlib.Omega.{arith}
 use Rattle.jobs.proofs.Ends.{begins, goes_on, ends}
 use Rattle.jobs.proofs.last_end.Goals as goal
 

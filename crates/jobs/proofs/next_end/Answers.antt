@@ -1,6 +1,5 @@
 -- `next_end` meets its contract.
 use borrow.Author.Tests.{lt-ltb, le-ltb}
-use borrow.Author.Rules.{rules}
 use Rattle.jobs.proofs.next_end.Goals as goal
 
 pub returns-then-first-end : goal.returns-then-first-end

@@ -3,7 +3,6 @@
 use native.Mathlib.Omega.{arith}
 use Prim.Native.Nat.{◌+◌, ◌-◌}
 use Rattle.jobs.proofs.JobLaws.{on-stretch}
-use borrow.Author.Rules.{rules}
 use Rattle.jobs.proofs.run_job.Goals as goal
 
 pub returns : goal.returns

@@ -1,5 +1,4 @@
 -- `has_too_many_blocks` meets its contract: so many increments are at most 1,000,000,000.
-use borrow.Author.Rules.{rules}
 use Rattle.judging.proofs.TableLaws.{too_many}
 use Rattle.judging.proofs.has_too_many_blocks.Goals as goal
 

@@ -1,5 +1,4 @@
 -- `is_undrawn` meets its contract: each method's own case.
-use borrow.Author.Rules.{rules}
 use mathlib.Core.Path.{refl}
 use Rattle.series.specs.Lottery.{unstarted}
 use Rattle.series.specs.Refusals.{undrawn}

@@ -1,6 +1,5 @@
 -- `judge` meets its contract: the list's rows, and then those of what is exercised and of the draw.
 use Rattle.judging.proofs.TableLaws.{judged_parts}
-use borrow.Author.Rules.{rules}
 use Rattle.judging.proofs.judge.Goals as goal
 
 pub returns : goal.returns

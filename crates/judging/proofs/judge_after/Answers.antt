@@ -2,7 +2,6 @@
 use mathlib.Core.Path.{sym, ap, ◌∙◌}
 use Rattle.list_judging.specs.Judged.{judged_of}
 use Rattle.judging.specs.Judged.{judged_after}
-use borrow.Author.Rules.{rules}
 use Rattle.judging.proofs.judge_after.Goals as goal
 
 pub returns-in-Refused : goal.returns-in-Refused

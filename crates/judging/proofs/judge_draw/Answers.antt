@@ -1,5 +1,4 @@
 -- `judge_draw` meets its contract: the one row of the method's draw.
-use borrow.Author.Rules.{rules}
 use mathlib.Core.Path.{refl, ◌∙◌}
 use Rattle.judging.proofs.TableLaws.{wheel_drawn, lottery_drawn, draw_taken, draw-refused}
 use Rattle.series.specs.Refusals.{first, draw_rows}

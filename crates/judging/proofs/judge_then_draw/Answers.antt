@@ -1,5 +1,4 @@
 -- `judge_then_draw` meets its contract: what is decided before the draw, then the draw.
-use borrow.Author.Rules.{rules}
 use Rattle.list_judging.specs.Judged.{judged_of}
 use Rattle.judging.proofs.TableLaws.{decided, judged_draw}
 use Rattle.judging.proofs.judge_then_draw.Goals as goal

@@ -1,7 +1,6 @@
 -- `judge_uncoded` meets its contract: the list's rows, and then those of what is exercised and of the draw.
 use mathlib.Core.Path.{◌∙◌}
 use Rattle.judging.proofs.TableLaws.{by_account, judged_parts}
-use borrow.Author.Rules.{rules}
 use Rattle.judging.proofs.judge_uncoded.Goals as goal
 
 pub returns : goal.returns

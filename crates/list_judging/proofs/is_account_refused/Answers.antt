@@ -1,6 +1,5 @@
 -- `is_account_refused` meets its contract: the definition's two cases in turn.
 use mathlib.Core.Path.{sym, ◌∙◌}
-use borrow.Author.Rules.{rules}
 use Rattle.list_judging.proofs.ListLaws.{no_account, looked_up}
 use Rattle.list_judging.proofs.is_account_refused.Goals as goal
 

@@ -1,6 +1,5 @@
 -- `judge` meets its contract: the list of each method rises by codes or by accounts.
 use Rattle.series.specs.declared.Method.{Method}
-use borrow.Author.Rules.{rules}
 use Rattle.list_judging.proofs.judge.Goals as goal
 
 pub returns-in-Wheel : goal.returns-in-Wheel

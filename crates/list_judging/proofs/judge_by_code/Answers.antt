@@ -4,7 +4,6 @@ use Rattle.series.specs.Refusals.{list_verdict_for}
 use Rattle.series.specs.declared.Method.{Method}
 use Rattle.rising_lists.specs.Judged.{WalkTells, FallsLate}
 use Rattle.rising_lists.specs.declared.Walk.{Walk}
-use borrow.Author.Rules.{rules}
 use Rattle.list_judging.proofs.judge_by_code.Goals as goal
 
 pub judge_distinct-requires : goal.judge_distinct-requires

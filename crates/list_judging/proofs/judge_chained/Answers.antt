@@ -1,14 +1,10 @@
 -- `judge_chained` meets its contract. The invariant: the rows from the position on are left, and the accounts before it are linked.
-use Prim.Native.Nat.{◌-◌}
 use mathlib.Core.Path.{sym, ap, ◌∙◌}
 use native.Mathlib.Omega.{arith}
 use native.Mathlib.Numerals.{add-one}
-use lib.ListN.{length}
-use borrow.Author.Rules.{rules}
 use Rattle.series.specs.Results.{refused}
 use Rattle.series.specs.declared.Method.{Method}
-use Rattle.list_judging.specs.Chains.{Linked}
-use Rattle.rising_lists.proofs.ListLaws.{Judging, judging_start, refused-order, refused-account, refused-shorts, left-enough, judging_next, judged_all}
+use Rattle.rising_lists.proofs.ListLaws.{judging_start, refused-order, refused-account, refused-shorts, left-enough, judging_next, judged_all}
 use Rattle.list_judging.proofs.judge_chained.Goals as goal
 
 pub loop-i-init : goal.loop-i-init

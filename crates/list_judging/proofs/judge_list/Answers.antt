@@ -1,5 +1,4 @@
 -- `judge_list` meets its contract: a list is judged with an output of its own length.
-use borrow.Author.Rules.{rules}
 use Rattle.rising_lists.specs.Judged.{judged_of}
 use Rattle.list_judging.proofs.ListLaws.{judged_list}
 use Rattle.list_judging.proofs.judge_list.Goals as goal

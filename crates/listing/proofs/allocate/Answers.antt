@@ -1,6 +1,5 @@
 -- `allocate` meets its contract.
 use Rattle.listing.proofs.ListingLaws.{called_by_shorts, called_by_lasts}
-use borrow.Author.Rules.{rules}
 use Rattle.listing.proofs.allocate.Goals as goal
 
 pub returns-in-Shorts : goal.returns-in-Shorts

@@ -1,7 +1,6 @@
 -- `allocate_by_shorts` meets its contract: the shorts are filled in, and the call is made on them.
 use Rattle.forms.proofs.FillLaws.{fill_whole}
 use Rattle.listing.proofs.ListingLaws.{called_by_differences}
-use borrow.Author.Rules.{rules}
 use Rattle.listing.proofs.allocate_by_shorts.Goals as goal
 
 pub returns : goal.returns

@@ -2,7 +2,6 @@
 use mathlib.Core.Path.{sym}
 use lib.Seq.{length-take-le}
 use Rattle.listing.proofs.ListingLaws.{called_too_long}
-use borrow.Author.Rules.{rules}
 use Rattle.listing.proofs.allocate_lasts.Goals as goal
 
 pub returns-then-n-gt4096 : goal.returns-then-n-gt4096

@@ -4,7 +4,6 @@ use Rattle.series.specs.Refusals.{list_verdict}
 use Rattle.forms.specs.Forms.{in_form, list_verdict_in}
 use Rattle.forms.specs.declared.Form.{Form}
 use Rattle.forms.proofs.FillLaws.{fill_whole}
-use borrow.Author.Rules.{rules}
 use Rattle.listing.proofs.judge_by_shorts.Goals as goal
 
 pub returns : goal.returns

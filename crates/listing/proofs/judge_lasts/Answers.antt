@@ -2,7 +2,6 @@
 use mathlib.Core.Path.{sym, ◌∙◌}
 use lib.Seq.{length-take-le}
 use Rattle.forms.proofs.LastRows.{long-list}
-use borrow.Author.Rules.{rules}
 use Rattle.listing.proofs.judge_lasts.Goals as goal
 
 pub returns-then-n-gt4096 : goal.returns-then-n-gt4096

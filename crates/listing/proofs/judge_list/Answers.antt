@@ -2,7 +2,6 @@
 use mathlib.Core.Path.{sym, ap, ◌∙◌}
 use Rattle.forms.specs.Forms.{list_verdict_in}
 use Rattle.listing.proofs.ListingLaws.{by_shorts}
-use borrow.Author.Rules.{rules}
 use Rattle.listing.proofs.judge_list.Goals as goal
 
 pub returns-in-Shorts : goal.returns-in-Shorts

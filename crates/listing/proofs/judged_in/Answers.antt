@@ -3,7 +3,6 @@ use mathlib.Core.Path.{sym, ap, ◌∙◌}
 use Rattle.series.specs.Results.{refused}
 use Rattle.forms.specs.Forms.{in_form}
 use Rattle.rising_lists.specs.Judged.{judged_of}
-use borrow.Author.Rules.{rules}
 use Rattle.listing.proofs.judged_in.Goals as goal
 
 pub returns-in-Accepted : goal.returns-in-Accepted

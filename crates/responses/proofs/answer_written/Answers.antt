@@ -1,6 +1,5 @@
 -- `answer_written` meets its contract.
 use mathlib.Core.Path.{refl}
-use borrow.Author.Rules.{rules}
 use Rattle.responses.proofs.answer_written.Goals as goal
 
 pub returns-in-Written : goal.returns-in-Written

@@ -10,7 +10,6 @@ use Rattle.text_rules.specs.Calls.{WritingCall}
 use Rattle.responses.specs.Printed.{refused_lines}
 use Rattle.responses.specs.declared.Response.{Response}
 use Rattle.responses.proofs.ResponseLaws.{text_into, note_is, print_short, print_all}
-use borrow.Author.Rules.{rules}
 use Rattle.responses.proofs.refuse.Goals as goal
 
 pub returns-in-Written : goal.returns-in-Written

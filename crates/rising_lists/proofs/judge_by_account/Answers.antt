@@ -3,7 +3,6 @@ use mathlib.Core.Path.{refl, subst}
 use Rattle.series.specs.Refusals.{list_verdict_for}
 use Rattle.rising_lists.specs.Judged.{WalkTells, FallsOnly}
 use Rattle.rising_lists.specs.declared.Walk.{Walk}
-use borrow.Author.Rules.{rules}
 use Rattle.rising_lists.proofs.judge_by_account.Goals as goal
 
 pub returns-in-Judged : goal.returns-in-Judged

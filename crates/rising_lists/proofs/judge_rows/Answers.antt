@@ -22,4 +22,8 @@ pub judge_rising-requires : goal.judge_rising-requires
 judge_rising-requires c = record { lengths = c.if-accounts-shorts.false; ordered = c.if-order-shorts.false; few = c.if-shorts-gt4096.false }
 
 pub returns : goal.returns
-returns c = let even : EvenList c.args.order.now c.args.accounts.now c.args.shorts.now = record { lengths = c.if-accounts-shorts.false; ordered = c.if-order-shorts.false; few = c.if-shorts-gt4096.false } in let told = walked c.judge_rising.result c.args.order.now c.args.accounts.now c.args.shorts.now c.args.room even c.if-shorts-eq0.false c.if-room-shorts.false c.judge_rising.ensures.walk_tells in record { walk_tells = told.0; falls_only = c.judge_rising.ensures.falls_only; falls_late = told.1 }
+returns c = let even : EvenList c.args.order.now c.args.accounts.now c.args.shorts.now = record {
+  lengths = c.if-accounts-shorts.false;
+  ordered = c.if-order-shorts.false;
+  few = c.if-shorts-gt4096.false;
+} in let told = walked c.judge_rising.result c.args.order.now c.args.accounts.now c.args.shorts.now c.args.room even c.if-shorts-eq0.false c.if-room-shorts.false c.judge_rising.ensures.walk_tells in record { walk_tells = told.0; falls_only = c.judge_rising.ensures.falls_only; falls_late = told.1 }

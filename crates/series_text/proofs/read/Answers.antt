@@ -2,7 +2,6 @@
 -- the call, and lines 1 to 3 on the way to the positions
 use Prim.Native.Nat.{◌≤◌}
 use mathlib.Core.Path.{◌≡◌, refl, sym, ap, subst, ◌∙◌}
-use borrow.Author.Rules.{rules}
 use lib.ListN.{drop}
 use Rattle.text_rules.specs.Text.{MOST_LINES, read_head}
 use Rattle.text_head.specs.Parts.{head_means}

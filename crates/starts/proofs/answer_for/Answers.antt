@@ -1,6 +1,5 @@
 -- `answer_for` meets its contract: each method's own cases.
 use mathlib.Core.Path.{refl}
-use borrow.Author.Rules.{rules}
 use Rattle.starts.proofs.answer_for.Goals as goal
 
 pub returns-in-TenThousandths : goal.returns-in-TenThousandths

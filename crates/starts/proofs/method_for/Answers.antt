@@ -1,6 +1,5 @@
 -- `method_for` meets its contract.
 use mathlib.Core.Path.{refl}
-use borrow.Author.Rules.{rules}
 use Rattle.starts.proofs.method_for.Goals as goal
 
 pub returns-in-TenThousandths : goal.returns-in-TenThousandths

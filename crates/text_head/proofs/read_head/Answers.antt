@@ -2,7 +2,6 @@
 -- what line 1 and line 2 answered
 use mathlib.Core.Path.{sym, ap, subst, ◌∙◌}
 use native.Mathlib.Omega.{arith}
-use borrow.Author.Rules.{rules}
 use Rattle.text_rules.specs.Names.{terms_numbers}
 use Rattle.text_words.specs.Parts.{terms_names_mean, TermsNamesRead, position_names_mean, PositionNamesRead}
 use Rattle.text_words.specs.declared.names.TermsNames.{TermsNames}

@@ -3,12 +3,11 @@
 use Prim.Native.Nat.{ℕ, ◌+◌, ◌≤◌}
 use mathlib.Core.Path.{◌≡◌, sym, ap, subst, ◌∙◌}
 use native.Mathlib.Omega.{arith}
-use borrow.Author.Rules.{rules}
 use mathlib.Core.List.{[], ◌∷◌}
 use lib.ListN.{length, take, drop}
 use lib.Seq.{length-take-le}
 use Rattle.series.specs.Results.{value}
-use Rattle.text_rules.specs.Fields.{Text, COMMA}
+use Rattle.text_rules.specs.Fields.{COMMA}
 use Rattle.text_rules.specs.Rows.{read_row}
 use Rattle.text_fields.specs.Parts.{Onward, found_means, row_means, RowOnward}
 use Rattle.text_fields.proofs.FieldLaws.{onward_byte, onward-more}

@@ -3,7 +3,6 @@ use mathlib.Core.Path.{sym, ap, ◌∙◌}
 use borrow.Author.Tests.{not-true, not-false}
 use Rattle.text_words.specs.Parts.{named_means}
 use Rattle.text_head.proofs.HeadLaws.{terms_missing, terms_unknown, terms_malformed}
-use borrow.Author.Rules.{rules}
 use mathlib.Core.Bool.{not}
 use Rattle.text_head.proofs.refuse_terms.Goals as goal
 

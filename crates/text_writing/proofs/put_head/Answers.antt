@@ -11,7 +11,6 @@ use Rattle.text_rules.specs.Rows.{write_row}
 use Rattle.text_rules.specs.Text.{terms_row, Optional}
 use Rattle.text_rules.proofs.LengthLaws.{few-numbers, length-head, head_room}
 use Rattle.text_writing.proofs.WriteLaws.{terms_taken, put_head}
-use borrow.Author.Rules.{rules}
 use Rattle.text_writing.proofs.put_head.Goals as goal
 
 pub put_terms_line-line2-requires : goal.put_terms_line-line2-requires

@@ -17,7 +17,6 @@ use Rattle.text_writing.specs.Answers.{writing_of}
 use Rattle.text_writing.specs.Parts.{written, left_out, Unwritten}
 use Rattle.text_writing.proofs.PutLaws.{put_taken}
 use Rattle.text_writing.proofs.WriteLaws.{Measured, measured, columns-written, series_unwritten, measured_columns, columns-refused, text-long, text-short, text_put}
-use borrow.Author.Rules.{rules}
 use Rattle.text_writing.proofs.write.Goals as goal
 
 pub slice_bounds-lines-end : goal.slice_bounds-lines-end

@@ -5,7 +5,6 @@ use Rattle.text_rules.specs.Fields.{COMMA, NEWLINE}
 use Rattle.text_rules.specs.Calls.{note_into}
 use Rattle.text_writing.proofs.PutLaws.{put_append}
 use Rattle.text_writing.proofs.WriteLaws.{lines_short, lines_put, one_row, note_measured}
-use borrow.Author.Rules.{rules}
 use Rattle.text_writing.proofs.write_note.Goals as goal
 
 pub returns-then-text-names : goal.returns-then-text-names

@@ -2,8 +2,7 @@
 -- the columns of the table
 use mathlib.Core.Path.{◌≡◌, refl, sym, ap, ◌∙◌}
 use mathlib.Core.Bool.{false}
-use mathlib.Core.List.{List, [], ◌∷◌}
-use Prim.Native.Nat.{ℕ}
+use mathlib.Core.List.{[], ◌∷◌}
 use native.Mathlib.Omega.{arith}
 use lib.ListN.{length}
 use Rattle.series.specs.Results.{value}
@@ -11,7 +10,6 @@ use Rattle.text_rules.specs.Calls.{head_and_lines, table_into, length_of}
 use Rattle.text_writing.specs.Answers.{writing_of}
 use Rattle.text_writing.specs.Tables.{both_within}
 use Rattle.text_writing.proofs.WriteLaws.{Fitting, headed, series_unwritten, measured_columns, table_refused, table_fits, table_put}
-use borrow.Author.Rules.{rules}
 use Rattle.text_writing.proofs.write_table.Goals as goal
 
 pub put_table-requires : goal.put_table-requires

@@ -1,11 +1,10 @@
 -- `copy` meets its contract. The invariant: the amounts passed are the positions' shorts, the others stand. The measure is what is left of the list.
 use borrow.Author.Rules.{rules}
-use Prim.Native.Nat.{◌-◌, ◌≤◌}
 use mathlib.Core.Path.{◌≡◌, refl, sym, ap, ◌∙◌}
 use native.Mathlib.Omega.{arith}
 use lib.ListN.{length, get_or}
 use Rattle.series.specs.Sums.{listed}
-use Rattle.series.proofs.ListLaws.{filled, fill_none, fill_more, fill_length, fill_all, listed_elements}
+use Rattle.series.proofs.ListLaws.{fill_none, fill_more, fill_length, fill_all, listed_elements}
 use Rattle.allocation.proofs.lists.copy.Goals as goal
 
 pub loop-i-init : goal.loop-i-init

@@ -1,5 +1,4 @@
 -- `lottery::assign` meets its contract: one run from the starting place, with all amounts 0 at first.
-use borrow.Author.Rules.{rules}
 use Rattle.allocation.proofs.RunLaws.{lottery-ready, lottery_done}
 use Rattle.allocation.proofs.lottery.assign.Goals as goal
 

@@ -1,5 +1,4 @@
 -- `lottery::assign_by_draw` meets its contract: whole, one position, or one run from the starting place.
-use borrow.Author.Rules.{rules}
 use mathlib.Core.Path.{◌∙◌}
 use native.Mathlib.Omega.{arith}
 use Rattle.starts.proofs.StartLaws.{place-on}

@@ -1,5 +1,4 @@
 -- `starting_place` meets its contract: under L the product fits 64 bits, and the place fits 32; under R the remainder is below T.
-use borrow.Author.Rules.{rules}
 use mathlib.Core.Path.{refl}
 use native.Mathlib.Omega.{arith}
 use native.Mathlib.Nat.{mul-le-mul, mod-lt}

@@ -1,5 +1,4 @@
 -- `assign_run` meets its contract: a run that ends in the position it begins in, or a round.
-use borrow.Author.Rules.{rules}
 use native.Mathlib.Omega.{arith}
 use Rattle.series.proofs.SumLaws.{total_term}
 use Rattle.allocation.proofs.RunLaws.{stands_here, assigned_here}

@@ -1,11 +1,7 @@
 -- `hand` meets its contract. The invariant: the walk has come to position `at`, and the amounts before it have grown. The measure is what is left of the list.
-use borrow.Author.Rules.{rules}
-use Prim.Native.Nat.{◌+◌, ◌-◌, ◌≤◌, ◌<◌}
-use native.Mathlib.Nat.{le_refl}
-use native.Mathlib.Omega.{arith}
-use lib.ListN.{length, length-set}
-use Rattle.series.proofs.SumLaws.{total_term}
-use Rattle.allocation.proofs.StretchLaws.{Walk, walk_start, walk_next, walk_inside, walk_past, Growing, growing_start, growing_next, grown-inside, grown-past}
+use Prim.Native.Nat.{◌+◌, ◌-◌, ◌≤◌}
+use lib.ListN.{length}
+use Rattle.allocation.proofs.StretchLaws.{Walk, Growing}
 use Rattle.allocation.proofs.places.hand.Given as goal
 
 abbrev pub invariant-loop-at : goal.invariant-loop-at

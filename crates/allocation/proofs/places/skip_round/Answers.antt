@@ -1,5 +1,4 @@
 -- `skip_round` meets its contract: a walk over the part that the cursor stands in and, past the end of the list, one over the part from the top.
-use borrow.Author.Rules.{rules}
 use mathlib.Core.Path.{sym}
 use native.Mathlib.Omega.{arith}
 use lib.Seq.{length-take-le}

@@ -1,5 +1,4 @@
 -- `skip_run` meets its contract: a run that ends in the position it begins in, or a round.
-use borrow.Author.Rules.{rules}
 use native.Mathlib.Omega.{arith}
 use Rattle.allocation.proofs.RunLaws.{stands_here}
 use Rattle.allocation.proofs.places.skip_run.Goals as goal

@@ -1,6 +1,5 @@
 -- `wheel::assign` meets its contract: every position whole where S equals T, and else the blocks from the starting place.
 -- the function's entry, from where the blocks are counted
-use borrow.Author.Rules.{rules}
 use mathlib.Core.Path.{sym, ◌∙◌}
 use native.Mathlib.Omega.{arith}
 use Rattle.series.proofs.WheelLaws.{wheel-whole}
@@ -20,4 +19,7 @@ pub assign_blocks-requires : goal.assign_blocks-requires
 assign_blocks-requires c = blocks_fit _ _ _ _ _ _ _ _ _ _ c.requires.judged_series c.requires.increment (omega (arith, c.requires.judged_series.most)) c.seek.ensures c.clear.ensures c.block_count-blocks.ensures c.last_block-last.ensures c.interval.ensures.0 c.interval.ensures.1 c.zero.ensures
 
 pub returns : goal.returns
-returns c = record { value = c.block_count-blocks.ensures ∙ used_part _ _ _ (omega (arith, c.requires.judged_series.most)); amounts_after = blocks_give _ _ _ _ _ _ _ _ _ _ c.requires.judged_series c.requires.increment (omega (arith, c.requires.judged_series.most)) c.seek.ensures c.clear.ensures c.block_count-blocks.ensures c.last_block-last.ensures c.interval.ensures.0 c.interval.ensures.1 c.zero.ensures _ c.assign_blocks.ensures }
+returns c = record {
+  value = c.block_count-blocks.ensures ∙ used_part _ _ _ (omega (arith, c.requires.judged_series.most));
+  amounts_after = blocks_give _ _ _ _ _ _ _ _ _ _ c.requires.judged_series c.requires.increment (omega (arith, c.requires.judged_series.most)) c.seek.ensures c.clear.ensures c.block_count-blocks.ensures c.last_block-last.ensures c.interval.ensures.0 c.interval.ensures.1 c.zero.ensures _ c.assign_blocks.ensures;
+}

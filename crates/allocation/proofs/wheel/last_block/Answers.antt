@@ -1,5 +1,4 @@
 -- `last_block` meets its contract: the whole blocks before it have fewer than S contracts.
-use borrow.Author.Rules.{rules}
 use native.Mathlib.Omega.{arith}
 use Rattle.allocation.proofs.BlockLaws.{whole-blocks}
 use Rattle.allocation.proofs.wheel.last_block.Goals as goal

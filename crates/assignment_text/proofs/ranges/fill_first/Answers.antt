@@ -1,9 +1,6 @@
 -- `ranges::fill_first` meets its contract. The loop's invariant: the ranges of the positions passed are filled in.
-use Prim.Native.Nat.{◌-◌}
 use native.Mathlib.Omega.{arith}
-use lib.ListN.{length}
-use borrow.Author.Rules.{rules}
-use Rattle.assignment_text.proofs.FillLaws.{Filling, fill_start, firsts_long, lasts_long, fill_fits, fill_next, fill_end}
+use Rattle.assignment_text.proofs.FillLaws.{fill_start, firsts_long, lasts_long, fill_fits, fill_next, fill_end}
 use Rattle.assignment_text.proofs.ranges.fill_first.Goals as goal
 
 pub loop-i-init : goal.loop-i-init

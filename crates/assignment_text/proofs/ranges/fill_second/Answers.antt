@@ -1,11 +1,10 @@
 -- `ranges::fill_second` meets its contract. The loop's invariant: the numbers passed are filled in, each plus T.
-use Prim.Native.Nat.{◌+◌, ◌-◌, ◌≤◌}
-use mathlib.Core.Path.{◌≡◌, refl, ap, ◌∙◌}
+use Prim.Native.Nat.{◌+◌}
+use mathlib.Core.Path.{refl, ap, ◌∙◌}
 use native.Mathlib.Omega.{arith}
-use lib.ListN.{length, get_or}
-use borrow.Author.Rules.{rules}
+use lib.ListN.{get_or}
 use Rattle.series.specs.Sums.{listed}
-use Rattle.series.proofs.ListLaws.{filled, fill_none, fill_more, fill_length, fill_all}
+use Rattle.series.proofs.ListLaws.{fill_none, fill_more, fill_length, fill_all}
 use Rattle.assignment_text.proofs.ranges.fill_second.Goals as goal
 
 pub loop-i-init : goal.loop-i-init

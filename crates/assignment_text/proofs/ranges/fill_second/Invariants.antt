@@ -1,11 +1,8 @@
 -- `ranges::fill_second` meets its contract. The loop's invariant: the numbers passed are filled in, each plus T.
 use Prim.Native.Nat.{◌+◌, ◌-◌, ◌≤◌}
-use mathlib.Core.Path.{◌≡◌, refl, ap, ◌∙◌}
-use native.Mathlib.Omega.{arith}
+use mathlib.Core.Path.{◌≡◌}
 use lib.ListN.{length, get_or}
-use borrow.Author.Rules.{rules}
-use Rattle.series.specs.Sums.{listed}
-use Rattle.series.proofs.ListLaws.{filled, fill_none, fill_more, fill_length, fill_all}
+use Rattle.series.proofs.ListLaws.{filled}
 use Rattle.assignment_text.proofs.ranges.fill_second.Given as goal
 
 abbrev pub invariant-loop-i : goal.invariant-loop-i

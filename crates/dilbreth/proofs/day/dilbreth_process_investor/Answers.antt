@@ -2,7 +2,6 @@
 use mathlib.Core.Path.{sym, ap, ◌∙◌}
 use Rattle.activity.specs.Answers.{investor_answer}
 use Rattle.dilbreth.proofs.DayLaws.{investor_hands}
-use borrow.Author.Rules.{rules}
 use Rattle.dilbreth.proofs.day.dilbreth_process_investor.Goals as goal
 
 pub returns-in-After : goal.returns-in-After

@@ -2,7 +2,6 @@
 use mathlib.Core.Path.{sym, ap, ◌∙◌}
 use Rattle.activity.specs.Answers.{market_maker_answer}
 use Rattle.dilbreth.proofs.DayLaws.{market_maker_hands}
-use borrow.Author.Rules.{rules}
 use Rattle.dilbreth.proofs.day.dilbreth_process_market_maker.Goals as goal
 
 pub returns-in-Limit : goal.returns-in-Limit

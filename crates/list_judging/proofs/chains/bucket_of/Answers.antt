@@ -1,7 +1,6 @@
 -- `chains::bucket_of` meets its contract.
 use mathlib.Core.Path.{refl}
 use native.Mathlib.Omega.{arith}
-use borrow.Author.Rules.{rules}
 use Rattle.list_judging.specs.Chains.{bucket}
 use Rattle.list_judging.proofs.chains.bucket_of.Goals as goal
 

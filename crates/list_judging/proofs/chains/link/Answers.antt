@@ -2,7 +2,6 @@
 use lib.ListN.{get_or}
 use Rattle.list_judging.specs.Chains.{bucket}
 use Rattle.list_judging.proofs.ChainLaws.{chains_more}
-use borrow.Author.Rules.{rules}
 use Rattle.list_judging.proofs.chains.link.Goals as goal
 
 pub returns : goal.returns

@@ -2,9 +2,8 @@
 use Prim.Native.Nat.{◌-◌}
 use native.Mathlib.Omega.{arith}
 use lib.ListN.{get_or}
-use borrow.Author.Rules.{rules}
 use Rattle.list_judging.specs.Chains.{bucket}
-use Rattle.list_judging.proofs.ChainLaws.{Look, look_start, look_found, look_next, look_less, look_done}
+use Rattle.list_judging.proofs.ChainLaws.{look_start, look_found, look_next, look_less, look_done}
 use Rattle.list_judging.proofs.chains.stands_earlier.Goals as goal
 
 pub offset_bounds-head-bucket_of : goal.offset_bounds-head-bucket_of

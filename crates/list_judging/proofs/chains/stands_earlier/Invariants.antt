@@ -1,10 +1,7 @@
 -- `chains::stands_earlier` meets its contract. The loop's invariant: the account stands among the earlier ones exactly if it stands among the first k.
-use Prim.Native.Nat.{◌-◌}
-use native.Mathlib.Omega.{arith}
 use lib.ListN.{get_or}
-use borrow.Author.Rules.{rules}
 use Rattle.list_judging.specs.Chains.{bucket}
-use Rattle.list_judging.proofs.ChainLaws.{Look, look_start, look_found, look_next, look_less, look_done}
+use Rattle.list_judging.proofs.ChainLaws.{Look}
 use Rattle.list_judging.proofs.chains.stands_earlier.Given as goal
 
 abbrev pub invariant-loop-k : goal.invariant-loop-k

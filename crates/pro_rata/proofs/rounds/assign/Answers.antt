@@ -1,5 +1,4 @@
 -- `pro_rata::assign` meets its contract: the room for the decimal parts is as long as the list.
-use borrow.Author.Rules.{rules}
 use mathlib.Core.Path.{sym}
 use lib.Seq.{length-take-le}
 use Rattle.pro_rata.proofs.rounds.assign.Goals as goal

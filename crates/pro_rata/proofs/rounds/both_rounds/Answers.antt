@@ -3,7 +3,6 @@ use mathlib.Core.Path.{◌∙◌}
 use native.Mathlib.Omega.{arith}
 use native.Mathlib.Nat.{le_refl}
 use Rattle.pro_rata.proofs.JudgedLaws.{assigned_le, left_is, decimals-left, room_for_one, rounds_are}
-use borrow.Author.Rules.{rules}
 use Rattle.pro_rata.proofs.rounds.both_rounds.Goals as goal
 
 pub overflow_sub-remainder : goal.overflow_sub-remainder

@@ -1,8 +1,7 @@
 -- `cut_off_lem` meets its contract. The invariant: at least `left` positions have `low` or more, and fewer have `low + width` or more; both are counted. The measure is the width.
-use Prim.Native.Nat.{◌+◌, ◌-◌, ◌/◌, ◌≤◌, ◌<◌}
+use Prim.Native.Nat.{◌+◌, ◌-◌, ◌/◌}
 use mathlib.Core.Path.{◌≡◌, ap}
 use native.Mathlib.Omega.{arith}
-use borrow.Author.Rules.{rules}
 use lib.ListN.{length}
 use Rattle.series.specs.CutOff.{at_least}
 use Rattle.series.proofs.ProRataLaws.{at_least_all, at_least_none}

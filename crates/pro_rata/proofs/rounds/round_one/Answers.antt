@@ -1,18 +1,13 @@
 -- `round_one` meets its contract. The invariant: the whole and decimal parts of the positions passed are written, and the whole parts summed. The measure is what is left of the list.
-use Prim.Native.Nat.{ℕ, ◌+◌, ◌-◌, ◌≤◌}
+use Prim.Native.Nat.{ℕ, ◌+◌}
 use mathlib.Core.Path.{◌≡◌, refl, ap, ap₂, ◌∙◌}
-use mathlib.Core.List.{List}
 use native.Mathlib.Omega.{arith}
-use borrow.Author.Rules.{rules}
 use lib.ListN.{length}
 use Rattle.series.specs.Sums.{sum_below, listed}
-use Rattle.series.specs.ProRata.{whole_part, decimal_part}
 use Rattle.series.proofs.SumLaws.{sum-next}
-use Rattle.pro_rata.specs.Rounds.{at, units}
-use Rattle.pro_rata.specs.declared.rounds.Percentage.{Percentage}
 use Rattle.pro_rata.proofs.JudgedLaws.{shorts_le, assigned_le, wholes_are, decimals_are}
-use Rattle.series.proofs.ListLaws.{filled, fill_none, fill_more, fill_all, fill_length}
-use Rattle.pro_rata.proofs.rounds.round_one.Invariants.{wholes, decimals_of}
+use Rattle.series.proofs.ListLaws.{fill_none, fill_more, fill_all, fill_length}
+use Rattle.pro_rata.proofs.rounds.round_one.Invariants.{wholes}
 use Rattle.pro_rata.proofs.rounds.round_one.Goals as goal
 
 pub loop-i-init : goal.loop-i-init

@@ -10,7 +10,6 @@ use Rattle.series.proofs.ProRataLaws.{unserved, equal_le}
 use Rattle.pro_rata.specs.Rounds.{at, cut_off_of}
 use Rattle.series.proofs.ListLaws.{listed_elements}
 use Rattle.pro_rata.proofs.RoundTwoLaws.{CutOffAt, is_cut_off, is_none, larger_lt, tied-some, serves, service}
-use borrow.Author.Rules.{rules}
 use Rattle.pro_rata.proofs.rounds.round_two.Goals as goal
 
 pub returns-in_default : goal.returns-in_default

@@ -1,19 +1,15 @@
 -- `serve` meets its contract. The invariant: the tied positions passed are counted, and they and the larger ones are served. The measure is what is left of the list.
 -- what position i holds at the end
-use Prim.Native.Nat.{ℕ, ◌+◌, ◌-◌, ◌≤◌}
+use Prim.Native.Nat.{◌+◌}
 use mathlib.Core.Path.{◌≡◌, refl, ap, ap₂, ◌∙◌}
-use mathlib.Core.Logic.{⊎_elim}
-use mathlib.Core.List.{List}
 use native.Mathlib.Omega.{arith}
-use borrow.Author.Rules.{rules}
 use lib.ListN.{length}
 use Rattle.series.specs.Sums.{listed, count_below, sum_below}
 use Rattle.series.specs.ProRata.{equal}
-use Rattle.series.specs.CutOff.{at_cut_off, by_cut_off}
+use Rattle.series.specs.CutOff.{at_cut_off}
 use Rattle.series.proofs.ProRataLaws.{equal-more, equal-same, equal-before}
 use Rattle.pro_rata.specs.Rounds.{at}
-use Rattle.pro_rata.specs.declared.rounds.RoundTwo.{RoundTwo}
-use Rattle.series.proofs.ListLaws.{filled, fill_none, fill_more, fill_rest, fill_all, fill_length}
+use Rattle.series.proofs.ListLaws.{fill_none, fill_more, fill_rest, fill_all, fill_length}
 use Rattle.pro_rata.proofs.RoundTwoLaws.{one-most}
 use Rattle.pro_rata.proofs.rounds.serve.Invariants.{given}
 use Rattle.pro_rata.proofs.rounds.serve.Goals.{else-part-cut, then-part-cut}

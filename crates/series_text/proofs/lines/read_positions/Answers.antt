@@ -1,16 +1,12 @@
 -- `lines::read_positions` meets its contract. The loop's invariant: the rows read stand first in the three lists, and the text goes on at the cursor.
-use Prim.Native.Nat.{◌≤◌, ◌-◌}
 use mathlib.Core.Path.{◌≡◌, refl, sym, ap, ◌∙◌}
-use mathlib.Core.List.{[], ◌∷◌}
 use native.Mathlib.Omega.{arith}
-use borrow.Author.Rules.{rules}
-use lib.ListN.{length, take, length-set}
+use lib.ListN.{length, length-set}
 use lib.Seq.{length-take-le}
 use Rattle.series.specs.Sums.{listed}
 use Rattle.text_rules.specs.Rows.{rows_of}
-use Rattle.text_rules.specs.Text.{MOST_LINES}
 use Rattle.text_fields.specs.Parts.{row_means}
-use Rattle.series_text.proofs.LineLaws.{RowsTo, rows_start, rows_end, rows_over, rows_malformed, rows_more, positions-refused, positions_all}
+use Rattle.series_text.proofs.LineLaws.{rows_start, rows_end, rows_over, rows_malformed, rows_more, positions-refused, positions_all}
 use Rattle.text_rules.proofs.ColumnLaws.{rows-set}
 use Rattle.series_text.proofs.lines.read_positions.Goals as goal
 

@@ -1,8 +1,6 @@
 -- `field::skip_line` meets its contract. The loop's invariant: what is left of the line stands against the text at the cursor.
-use Prim.Native.Nat.{◌≤◌, ◌-◌}
 use native.Mathlib.Omega.{arith}
-use lib.ListN.{length}
-use Rattle.text_fields.proofs.FieldLaws.{ComparedTo, line_start, line_none, line_other, line_more, line_end}
+use Rattle.text_fields.proofs.FieldLaws.{line_start, line_none, line_other, line_more, line_end}
 use Rattle.text_fields.proofs.field.skip_line.Goals as goal
 
 pub loop-i-init : goal.loop-i-init

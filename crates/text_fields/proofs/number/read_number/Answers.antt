@@ -1,11 +1,10 @@
 -- `number::read_number` meets its contract. The loop's invariant: the bytes passed are digits of the field, at most ten, and `n` is their number.
-use Prim.Native.Nat.{◌-◌}
 use mathlib.Core.Path.{sym, ◌∙◌}
 use native.Mathlib.Omega.{arith}
 use borrow.Author.Tests.{not-true, not-false}
-use lib.ListN.{length, get_or}
+use lib.ListN.{get_or}
 use Rattle.text_rules.proofs.FieldLaws.{digit_bounds}
-use Rattle.text_fields.proofs.FieldLaws.{NumberTo, number_start, number_small, number_more, number-long, number_other, number_none, number-end, number_empty, number_large}
+use Rattle.text_fields.proofs.FieldLaws.{number_start, number_small, number_more, number-long, number_other, number_none, number-end, number_empty, number_large}
 use mathlib.Core.Path.{ap}
 use mathlib.Core.Bool.{not}
 use Rattle.text_fields.proofs.number.read_number.Goals as goal

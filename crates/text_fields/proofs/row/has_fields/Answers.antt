@@ -2,10 +2,9 @@
 use Prim.Native.Nat.{◌-◌}
 use mathlib.Core.Path.{refl, sym, ap, ◌∙◌}
 use native.Mathlib.Omega.{arith}
-use borrow.Author.Rules.{rules}
 use Rattle.text_rules.specs.Fields.{COMMA, NEWLINE, end_before}
 use Rattle.text_fields.specs.Parts.{found_means, EndFound}
-use Rattle.text_fields.proofs.RowLaws.{FoundAt, found_at, FieldsTo, fields_missing, fields_more, fields_all}
+use Rattle.text_fields.proofs.RowLaws.{FoundAt, found_at, fields_missing, fields_more, fields_all}
 use Rattle.text_fields.proofs.row.has_fields.Goals as goal
 
 pub loop-left-init : goal.loop-left-init

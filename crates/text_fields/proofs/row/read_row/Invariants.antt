@@ -1,12 +1,7 @@
 -- `row::read_row` meets its contract. The loop's invariant: the numbers read stand first in the row, and the others are read at the cursor.
-use Prim.Native.Nat.{◌+◌, ◌-◌, ◌≤◌}
-use mathlib.Core.Path.{◌≡◌, refl, subst}
-use native.Mathlib.Omega.{arith}
-use lib.ListN.{length, set}
-use Rattle.text_rules.specs.Fields.{COMMA, NEWLINE, ends, end_before}
-use Rattle.text_fields.specs.Parts.{NumberRead}
-use Rattle.text_fields.proofs.RowLaws.{end_other, RowTo, row_start, row_end, row_more, row_malformed}
-use borrow.Author.Rules.{rules}
+use Prim.Native.Nat.{◌-◌, ◌≤◌}
+use lib.ListN.{length}
+use Rattle.text_fields.proofs.RowLaws.{RowTo}
 use Rattle.text_fields.proofs.row.read_row.Given as goal
 
 abbrev pub invariant-loop-i : goal.invariant-loop-i

@@ -1,7 +1,6 @@
 -- `letter_of` meets its contract.
 use mathlib.Core.Path.{sym, ap}
 use Rattle.text_rules.specs.Letters.{letter}
-use borrow.Author.Rules.{rules}
 use Rattle.text_words.proofs.letters.letter_of.Goals as goal
 
 pub returns-in-Wheel : goal.returns-in-Wheel

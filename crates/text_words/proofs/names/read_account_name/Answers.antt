@@ -1,6 +1,5 @@
 -- `names::read_account_name` meets its contract: the account column, and then the form's word.
 use mathlib.Core.Path.{subst}
-use borrow.Author.Rules.{rules}
 use Rattle.series.specs.Ascii.{ascii}
 use Rattle.text_rules.specs.Names.{account_name, form_name, account_line}
 use Rattle.text_fields.specs.Parts.{LineRead}

@@ -1,7 +1,6 @@
 -- `names::read_form_name` meets its contract: the word of shorts, else that of last numbers.
 -- the word of shorts is not there
 use mathlib.Core.Path.{subst}
-use borrow.Author.Rules.{rules}
 use Rattle.series.specs.Ascii.{ascii}
 use Rattle.forms.specs.declared.Form.{Form}
 use Rattle.text_rules.specs.Names.{form_name}

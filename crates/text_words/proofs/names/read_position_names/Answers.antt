@@ -1,6 +1,5 @@
 -- `names::read_position_names` meets its contract: the code column or none, and then the rest of line 3.
 use mathlib.Core.Path.{subst}
-use borrow.Author.Rules.{rules}
 use Rattle.series.specs.Ascii.{ascii}
 use Rattle.text_rules.specs.Names.{code_name}
 use Rattle.text_fields.specs.Parts.{LineRead}

@@ -1,7 +1,6 @@
 -- `names::read_terms_names` meets its contract: line 1 without the increment, else with it.
 -- line 1 without the increment is not there
 use mathlib.Core.Path.{subst}
-use borrow.Author.Rules.{rules}
 use Rattle.series.specs.Ascii.{ascii}
 use Rattle.text_rules.specs.Names.{terms_line}
 use Rattle.text_rules.specs.declared.TermsColumns.{TermsColumns}

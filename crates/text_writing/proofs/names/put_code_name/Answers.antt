@@ -1,7 +1,6 @@
 -- `names::put_code_name` meets its contract: the name is put, or nothing.
 use Rattle.series.specs.Ascii.{ascii}
 use Rattle.text_rules.specs.Names.{code_name}
-use borrow.Author.Rules.{rules}
 use Rattle.text_writing.proofs.PutLaws.{put_nil}
 use Rattle.text_writing.proofs.names.put_code_name.Goals as goal
 

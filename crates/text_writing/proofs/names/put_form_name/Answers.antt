@@ -1,7 +1,6 @@
 -- `names::put_form_name` meets its contract: the byte strings of the code are the names of the forms.
 use Rattle.series.specs.Ascii.{ascii}
 use Rattle.text_rules.specs.Names.{form_name}
-use borrow.Author.Rules.{rules}
 use Rattle.text_writing.proofs.names.put_form_name.Goals as goal
 
 pub put_line-requires : goal.put_line-requires

@@ -7,7 +7,6 @@ use lib.ListN.{length}
 use Rattle.series.specs.Ascii.{ascii}
 use Rattle.text_rules.specs.Names.{code_name, account_name, form_name, account_line, positions_line}
 use Rattle.text_rules.proofs.NameLaws.{length-positions}
-use borrow.Author.Rules.{rules}
 use Rattle.text_writing.proofs.PutLaws.{put_append}
 use Rattle.text_writing.proofs.names.put_positions_line.Goals as goal
 

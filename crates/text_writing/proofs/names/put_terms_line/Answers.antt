@@ -1,7 +1,6 @@
 -- `names::put_terms_line` meets its contract: the byte strings of the code are the two lines 1.
 use Rattle.series.specs.Ascii.{ascii}
 use Rattle.text_rules.specs.Names.{terms_line}
-use borrow.Author.Rules.{rules}
 use Rattle.text_writing.proofs.names.put_terms_line.Goals as goal
 
 pub put_line-requires : goal.put_line-requires

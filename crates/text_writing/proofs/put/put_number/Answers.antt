@@ -5,7 +5,7 @@ use native.Mathlib.Omega.{arith}
 use lib.ListN.{length, length-set}
 use Rattle.text_rules.specs.Numbers.{decimal}
 use Rattle.text_rules.proofs.LengthLaws.{length-number}
-use Rattle.text_writing.proofs.PutLaws.{DigitsPut, digits_start, digits_more, digits-end}
+use Rattle.text_writing.proofs.PutLaws.{digits_start, digits_more, digits-end}
 use Rattle.text_writing.proofs.put.put_number.Goals as goal
 
 pub digits_of-digits-requires : goal.digits_of-digits-requires

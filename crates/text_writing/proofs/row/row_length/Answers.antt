@@ -1,8 +1,8 @@
 -- `row::row_length` meets its contract. The loop's invariant: the sum with the length of the rest of the line is the length of the line, and each number passed gave at most 11.
-use Prim.Native.Nat.{◌+◌, ◌*◌, ◌-◌, ◌≤◌}
+use Prim.Native.Nat.{◌≤◌}
 use mathlib.Core.Path.{◌≡◌, sym, ap, ◌∙◌}
 use native.Mathlib.Omega.{arith}
-use lib.ListN.{length, get_or, drop}
+use lib.ListN.{length, get_or}
 use Rattle.text_rules.specs.Fields.{COMMA, NEWLINE}
 use Rattle.text_rules.specs.Rows.{write_row}
 use Rattle.text_rules.proofs.DecimalLaws.{digits-few}

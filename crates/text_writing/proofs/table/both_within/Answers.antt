@@ -3,7 +3,6 @@ use Prim.Native.Nat.{◌+◌}
 use Rattle.text_writing.specs.Tables.{both_within}
 use native.Mathlib.Omega.{arith}
 use borrow.Author.Tests.{lt-ltb, le-ltb}
-use borrow.Author.Rules.{rules}
 use Rattle.text_writing.proofs.table.both_within.Goals as goal
 
 pub returns-then-room-bytes : goal.returns-then-room-bytes

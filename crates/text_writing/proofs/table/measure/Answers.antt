@@ -1,7 +1,6 @@
 -- `table::measure` meets its contract: the lengths of the columns, and then that of the head and the lines.
 use Rattle.text_writing.proofs.WriteLaws.{uneven, too_many, measure_all}
 use native.Mathlib.Omega.{arith}
-use borrow.Author.Rules.{rules}
 use Rattle.text_writing.proofs.table.measure.Goals as goal
 
 pub returns-then-first-fourth : goal.returns-then-first-fourth

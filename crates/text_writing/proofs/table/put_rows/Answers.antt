@@ -1,13 +1,11 @@
 -- `table::put_rows` meets its contract. The loop's invariant: the lines of the first `i` rows are put.
-use Prim.Native.Nat.{ℕ, ◌+◌, ◌-◌, ◌≤◌, ◌<◌}
-use mathlib.Core.Path.{◌≡◌, refl, ap, ◌∙◌}
-use mathlib.Core.List.{List}
+use Prim.Native.Nat.{ℕ, ◌+◌, ◌≤◌, ◌<◌}
+use mathlib.Core.Path.{refl, ap, ◌∙◌}
 use native.Mathlib.Omega.{arith}
 use lib.ListN.{length}
-use borrow.Author.Rules.{rules}
 use Rattle.series.specs.Sums.{listed}
 use Rattle.text_rules.specs.Rows.{write_row, write_rows, row_of}
-use Rattle.text_writing.specs.Parts.{Put, written}
+use Rattle.text_writing.specs.Parts.{written}
 use Rattle.text_writing.proofs.PutLaws.{put_nil, put_append}
 use Rattle.text_writing.proofs.WriteLaws.{row_written, lines_by}
 use Rattle.text_rules.proofs.LengthLaws.{lines_of, lines_next, lines_next_length, lines_within}
@@ -37,14 +35,18 @@ slice_bounds-put_row-count c = omega (arith, c.requires.left_out_bound)
 
 pub put_row-at-requires : goal.put_row-at-requires
 put_row-at-requires c =
-    let room : (i : ℕ) → i < length c.args.fourth.now → c.args.from + length (lines_of ((row_of (written c.args.left_out c.args.first.now c.args.second.now c.args.third.now c.args.fourth.now c.args.fifth.now))) (i + 1)) ≤ length c.args.text.now = λ i lt. omega (arith, lines_within ((row_of (written c.args.left_out c.args.first.now c.args.second.now c.args.third.now c.args.fourth.now c.args.fifth.now))) (i + 1) (length c.args.fourth.now) (omega arith), ap length (lines_by _ _ _ _ _ _ c.requires.left_out_bound c.requires.five_columns _ refl), c.requires.fifth_in_bounds) in
+    let room : (i : ℕ) → i < length c.args.fourth.now → c.args.from + length (lines_of ((row_of (written c.args.left_out c.args.first.now c.args.second.now c.args.third.now c.args.fourth.now c.args.fifth.now)))
+    (i + 1)) ≤ length c.args.text.now = λ i lt. omega (arith, lines_within ((row_of (written c.args.left_out c.args.first.now c.args.second.now c.args.third.now c.args.fourth.now c.args.fifth.now))) (i + 1) (length c.args.fourth.now) (omega arith), ap length (lines_by _ _ _ _ _ _ c.requires.left_out_bound c.requires.five_columns _ refl), c.requires.fifth_in_bounds) in
     rw row_written (omega (arith, room c.loop-i.i c.loop-i-test.true, lines_next_length ((row_of (written c.args.left_out c.args.first.now c.args.second.now c.args.third.now c.args.fourth.now c.args.fifth.now))) c.loop-i.i, c.loop-i.invariant.1.after, c.loop-i.invariant.2))
 
 pub loop-i-preserved : goal.loop-i-preserved
 loop-i-preserved c =
-    let room : (i : ℕ) → i < length c.args.fourth.now → c.args.from + length (lines_of ((row_of (written c.args.left_out c.args.first.now c.args.second.now c.args.third.now c.args.fourth.now c.args.fifth.now))) (i + 1)) ≤ length c.args.text.now = λ i lt. omega (arith, lines_within ((row_of (written c.args.left_out c.args.first.now c.args.second.now c.args.third.now c.args.fourth.now c.args.fifth.now))) (i + 1) (length c.args.fourth.now) (omega arith), ap length (lines_by _ _ _ _ _ _ c.requires.left_out_bound c.requires.five_columns _ refl), c.requires.fifth_in_bounds) in
+    let room : (i : ℕ) → i < length c.args.fourth.now → c.args.from + length (lines_of ((row_of (written c.args.left_out c.args.first.now c.args.second.now c.args.third.now c.args.fourth.now c.args.fifth.now)))
+    (i + 1)) ≤ length c.args.text.now = λ i lt. omega (arith, lines_within ((row_of (written c.args.left_out c.args.first.now c.args.second.now c.args.third.now c.args.fourth.now c.args.fifth.now))) (i + 1) (length c.args.fourth.now) (omega arith), ap length (lines_by _ _ _ _ _ _ c.requires.left_out_bound c.requires.five_columns _ refl), c.requires.fifth_in_bounds) in
     let put = rw row_written at c.put_row-at.ensures in
-    let p = put_append (lines_of ((row_of (written c.args.left_out c.args.first.now c.args.second.now c.args.third.now c.args.fourth.now c.args.fifth.now))) c.loop-i.i) (write_row ((row_of (written c.args.left_out c.args.first.now c.args.second.now c.args.third.now c.args.fourth.now c.args.fifth.now)) c.loop-i.i)) c.args.text.now c.args.from c.loop-i.text _ c.loop-i.at _ (omega (arith, room c.loop-i.i c.loop-i-test.true, lines_next_length ((row_of (written c.args.left_out c.args.first.now c.args.second.now c.args.third.now c.args.fourth.now c.args.fifth.now))) c.loop-i.i)) c.loop-i.invariant.1 put in
+    let p = put_append (lines_of ((row_of (written c.args.left_out c.args.first.now c.args.second.now c.args.third.now c.args.fourth.now c.args.fifth.now))) c.loop-i.i) (write_row ((row_of
+    (written c.args.left_out c.args.first.now c.args.second.now c.args.third.now c.args.fourth.now c.args.fifth.now)) c.loop-i.i)) c.args.text.now c.args.from c.loop-i.text _ c.loop-i.at _ (omega
+    (arith, room c.loop-i.i c.loop-i-test.true, lines_next_length ((row_of (written c.args.left_out c.args.first.now c.args.second.now c.args.third.now c.args.fourth.now c.args.fifth.now))) c.loop-i.i)) c.loop-i.invariant.1 put in
     (omega arith, rw (lines_next ((row_of (written c.args.left_out c.args.first.now c.args.second.now c.args.third.now c.args.fourth.now c.args.fifth.now))) c.loop-i.i) p, c.put_row-at.auto.text ∙ c.loop-i.invariant.2)
 
 pub shape_of-text : goal.shape_of-text

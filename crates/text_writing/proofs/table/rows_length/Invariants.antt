@@ -1,16 +1,10 @@
 -- `table::rows_length` meets its contract. The loop's invariant: the sum is the length of the lines passed, at most 55 bytes each.
-use Prim.Native.Nat.{ℕ, ◌*◌, ◌-◌, ◌≤◌}
-use mathlib.Core.Path.{◌≡◌, refl, ap, ◌∙◌}
-use mathlib.Core.List.{List}
-use native.Mathlib.Omega.{arith}
+use Prim.Native.Nat.{◌*◌, ◌-◌, ◌≤◌}
+use mathlib.Core.Path.{◌≡◌}
 use lib.ListN.{length}
-use borrow.Author.Rules.{rules}
-use Rattle.series.specs.Sums.{listed}
-use Rattle.text_rules.specs.Fields.{COMMA, NEWLINE}
-use Rattle.text_rules.specs.Rows.{write_row, write_rows, row_of}
-use Rattle.text_rules.proofs.LengthLaws.{lines_of, lines_next_length}
+use Rattle.text_rules.specs.Rows.{row_of}
+use Rattle.text_rules.proofs.LengthLaws.{lines_of}
 use Rattle.text_writing.specs.Parts.{written}
-use Rattle.text_writing.proofs.WriteLaws.{row_written, row_short, lines_by}
 use Rattle.text_writing.proofs.table.rows_length.Given as goal
 
 abbrev pub invariant-loop-i : goal.invariant-loop-i

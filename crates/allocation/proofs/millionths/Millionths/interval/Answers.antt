@@ -3,7 +3,6 @@ use Prim.Native.Nat.{◌+◌, ◌*◌}
 use native.Mathlib.Omega.{arith}
 use native.Mathlib.Nat.{div-le_self}
 use Rattle.series.specs.Wheel.{ONE, interval}
-use borrow.Author.Rules.{rules}
 use Rattle.allocation.proofs.millionths.Millionths.interval.Goals as goal
 
 pub returns-then-mean-block : goal.returns-then-mean-block

@@ -1,5 +1,4 @@
 -- `Wheel::skip` meets its contract: the sum's whole part is skipped and its rest reserved.
-use borrow.Author.Rules.{rules}
 use mathlib.Core.Path.{refl}
 use Rattle.allocation.proofs.BlockLaws.{skip_is}
 use Rattle.allocation.proofs.wheel.Wheel.skip.Goals as goal

@@ -5,7 +5,6 @@ use native.Mathlib.Omega.{arith}
 use native.Mathlib.Nat.{mul-le-mul, le_of_lt}
 use Rattle.series.specs.ProRata.{whole_part, decimal_part}
 use Rattle.pro_rata.proofs.ProductLaws.{amount-parts}
-use borrow.Author.Rules.{rules}
 use Rattle.pro_rata.proofs.rounds.Percentage.assignment.Goals as goal
 
 pub overflow_mul-amount : goal.overflow_mul-amount

@@ -3,7 +3,6 @@ use Prim.Native.Nat.{◌*◌}
 use native.Mathlib.Omega.{arith}
 use native.Mathlib.Nat.{mod-lt}
 use Rattle.pro_rata.proofs.ProductLaws.{percentage-parts, units_le}
-use borrow.Author.Rules.{rules}
 use Rattle.pro_rata.proofs.rounds.Percentage.of.Goals as goal
 
 pub overflow_mul-units : goal.overflow_mul-units

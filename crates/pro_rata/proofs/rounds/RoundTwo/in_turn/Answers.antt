@@ -2,7 +2,6 @@
 use mathlib.Core.Path.{sym, ap}
 use lib.Dec.{ltb}
 use Rattle.pro_rata.proofs.RoundTwoLaws.{turn_low, turn-high}
-use borrow.Author.Rules.{rules}
 use Rattle.pro_rata.proofs.rounds.RoundTwo.in_turn.Goals as goal
 
 pub returns-then-number-self : goal.returns-then-number-self
