@@ -17,6 +17,17 @@ def norm(s):
     return s.replace("-", "_").lower()
 
 
+def nested(names, rest):
+    """A path into nested pairs as a field of a record."""
+    k, j, last = 0, 0, len(names) - 1
+    while j < len(rest) and rest[j] == "1" and k < last:
+        k += 1
+        j += 1
+    if j < len(rest) and rest[j] == "0" and k < last:
+        return [names[k]] + rest[j + 1 :]
+    return [names[k]] + rest[j:] if k == last else rest
+
+
 class Fn:
     def __init__(self, crate, path, names):
         self.crate, self.path, self.n = crate, path, names
@@ -31,6 +42,7 @@ class Fn:
         self.helpers = {}
         self.chain = []
         self.negated = False
+        self.arms = set()
 
     def parent(self, p):
         return self.n["places"][self.index[p]][1]
@@ -54,9 +66,15 @@ class Fn:
             place = self.parent(place)
 
     def step_at(self, place, fields):
+        if fields[0].endswith("_lem"):
+            return self.step_at(place, [fields[0][:-4]] + fields[1:])
+        fields = fields[:1] + [f.replace("-", "_") for f in fields[1:]]
         i = self.index[place]
         p = self.n["places"][i]
         f = fields[0]
+        if place == "Start" and f in ("pre", "requires"):
+            pre = self.n["pre"]
+            return ["c", "requires"] + (nested(pre["fields"], fields[1:]) if pre and len(pre["fields"]) > 1 else fields[1:])
         if place == "Start" and f in ("args", "requires", "ranges", "type_inv", "utf8"):
             return ["c"] + fields
         arm = self.n["arms"][i]
@@ -77,26 +95,21 @@ class Fn:
         return None
 
     def rest(self, i, p, rest):
+        if rest[:1] == ["inv"]:
+            rest = ["invariant"] + rest[1:]
         cl = self.n["clauses"][i]
         if rest[:1] == ["ensures"] and cl and len(cl["fields"]) > 1:
-            k = 0
-            j = 1
-            last = len(cl["fields"]) - 1
-            while j < len(rest) and rest[j] == "1" and k < last:
-                k += 1
-                j += 1
-            if j < len(rest) and rest[j] == "0" and k < last:
-                return ["ensures", cl["fields"][k]] + rest[j + 1 :]
-            if k == last:
-                return ["ensures", cl["fields"][k]] + rest[j:]
-        if rest[:1] == ["new"] and p[3] in self.n["params"]:
+            return ["ensures"] + nested(cl["fields"], rest[1:])
+        if rest[:1] == ["kept"]:
+            rest = ["auto"] + rest[1:]
+        if rest[:1] in (["new"], ["auto"]) and p[3] in self.n["params"]:
             ps = self.n["params"][p[3]]
             k, j = 0, 1
             while j < len(rest) and rest[j] == "1":
                 k += 1
                 j += 1
             if j < len(rest) and rest[j] == "0" and k < len(ps):
-                return ["new", ps[k]] + rest[j + 1 :]
+                return [rest[0], ps[k]] + rest[j + 1 :]
         return rest
 
 
@@ -138,7 +151,7 @@ class Turner:
                             path = f"(ap not {path})"
                         out.append(path)
                 else:
-                    out.append("c")
+                    out.append("at" if text[i:j] == "at" else "c")
                 i = j
                 continue
             m = re.compile(IDENT).match(text, i)
@@ -148,8 +161,15 @@ class Turner:
                 k = re.compile(r"\s+").match(text, j)
                 e = self.atom(text, k.end(), env) if k else None
                 if e and e[0] is not None and not e[1]:
-                    out.append(self.use(m.group(0), h, e[0]))
                     i = e[2]
+                    given = []
+                    while h["abbrev"] and len(given) < len(h["rest"]):
+                        a = self.argument(text, i)
+                        if not a:
+                            break
+                        given.append(self.turn(a[0], env))
+                        i = a[1]
+                    out.append(self.use(m.group(0), h, e[0], given))
                     continue
             if m:
                 out.append(m.group(0))
@@ -159,15 +179,46 @@ class Turner:
             i += 1
         return "".join(out)
 
-    def use(self, name, h, place):
+    def argument(self, text, i):
+        """The next argument after blanks: a word with its fields, or a term in parentheses with its fields."""
+        k = re.compile(r"\s+").match(text, i)
+        if not k:
+            return None
+        j = k.end()
+        if j < len(text) and text[j] == "(":
+            depth, e = 0, j
+            while e < len(text):
+                depth += text[e] in "([{"
+                depth -= text[e] in ")]}"
+                e += 1
+                if depth == 0:
+                    break
+        else:
+            m = re.compile(IDENT).match(text, j)
+            if not m or m.group(0) in ("in", "→", "≡", "<", "≤", "×", "+", "-", "*", "∙", "↦", "λ", "∷", "++", "at", "/", "%"):
+                return None
+            e = m.end()
+        while True:
+            m = re.compile(r"\." + IDENT).match(text, e)
+            if not m:
+                break
+            e = m.end()
+        return text[j:e], e
+
+    def use(self, name, h, place, given=()):
         """A helper at a place: an abbreviation in parentheses, or a `let` before the answer."""
         for u in h["unfold"]:
             if u not in self.unfold:
                 self.unfold.append(u)
-        if h["abbrev"]:
+        if h["abbrev"] and not (h["body"].startswith("record") and not h["path"]):
             body = self.turn(h["body"], {h["var"]: (place, [])})
-            if h["rest"]:
-                return "(λ " + " ".join(h["rest"]) + ". " + body + ")"
+            rest = h["rest"]
+            for p, g in zip(rest, given):
+                g = g if re.fullmatch(r"[\w.'-]+|\(.*\)", g, re.S) else f"({g})"
+                body = re.sub(IDENT, lambda m: g if m.group(0) == p and (m.start() == 0 or body[m.start() - 1] != ".") and not re.match(r" = ", body[m.end() :]) else m.group(0), body)
+            rest = rest[len(given) :]
+            if rest:
+                return "(λ " + " ".join(rest) + ". " + body + ")"
             return "(" + body + ")"
         key = (name, place)
         if key not in self.local:
@@ -179,7 +230,7 @@ class Turner:
             local = local if local not in [l[0] for l in self.lets] else f"{name}_{len(self.lets)}"
             self.lets.append((local, typ, body))
             self.local[key] = local
-        return self.local[key]
+        return f"({' '.join([self.local[key], *given])})" if given else self.local[key]
 
     def atom(self, text, i, env):
         if i < len(text) and text[i] == "(":
@@ -321,9 +372,39 @@ def clauses(body, names):
     if parts and len(parts) >= k:
         if len(parts) > k:
             parts = parts[: k - 1] + ["(" + ", ".join(parts[k - 1 :]) + ")"]
+        lead = lead.rstrip() + "\n    " if "\n" in lead else lead
         return lead + "record { " + "; ".join(f"{n} = {p}" for n, p in zip(names, parts)) + " }"
     path = ["all" + ".1" * i + (".0" if i < k - 1 else "") for i in range(k)]
+    lead = lead.rstrip() + "\n    " if "\n" in lead else lead
     return lead + f"let all = {rest} in record {{ " + "; ".join(f"{n} = {p}" for n, p in zip(names, path)) + " }"
+
+
+def joins(text, fn):
+    """A choice between two branches that join: an `elim` of the step's `.branch`."""
+    t = Turner(fn, {})
+    while True:
+        m = re.search(r"⊎_elim(?=\s)", text)
+        hit = None
+        for m in re.finditer(r"⊎_elim(?=\s)", text):
+            a = t.argument(text, m.end())
+            b = t.argument(text, a[1]) if a else None
+            c = t.argument(text, b[1]) if b else None
+            if c and re.fullmatch(r"c\.if-\S+\.branch", c[0]) and a[0].startswith("(λ ") and b[0].startswith("(λ "):
+                hit = (m, a, b, c)
+        if not hit:
+            return text
+        m, a, b, c = hit
+        step = c[0].split(".")[1]
+
+        def arm(x, lead, word):
+            mm = re.match(r"\(λ (\S+)\. ([\s\S]*)\)$", x)
+            w, body = mm.group(1), mm.group(2)
+            body = re.sub(re.escape(w) + r"\.0\.(taken|left|true|false)", f"{w}.{step}.{word}", body)
+            body = re.sub(r", " + re.escape(w) + r"\.1(?=[,)])", "", body)
+            fn.arms.add(f"{lead}-{step[3:]}")
+            return f"{lead}-{step[3:]} {w} ↦ {body}"
+
+        text = text[: m.start()] + f"elim {c[0]} [ " + arm(a[0], "then", "true") + " | " + arm(b[0], "else", "false") + " ]" + text[c[1] :]
 
 
 def convert(crate, folder, fn):
@@ -369,8 +450,9 @@ def convert(crate, folder, fn):
         m = re.match(r".*?" + re.escape(name) + r" : tie\.Need-(\S+)( .*)?$", t)
         if m:
             need = norm(m.group(1))
-            if need not in fn.needs and need.startswith("overflow_"):
-                need = need[len("overflow_") :]
+            for lead in ("overflow_", "nonzero_"):
+                if need not in fn.needs and need.startswith(lead):
+                    need = need[len(lead) :]
             if need not in fn.needs:
                 fn.todo.append(f"no goal {m.group(1)}: {eq[:200]}")
                 continue
@@ -387,6 +469,7 @@ def convert(crate, folder, fn):
             turner = Turner(fn, helpers)
             fn.set_chain(place)
             made = turner.turn(body, {params[0]: (place, [])})
+            made = joins(made, fn)
             asked = fn.n["asked"].get(old)
             if asked and len(asked) > 1:
                 made = clauses(made, asked)
@@ -473,6 +556,8 @@ def main():
         if ans or plain:
             imp = [f"use {base}.Invariants.{{{', '.join(shared)}}}"] if shared and re.search("|".join(r"(?<![\w.'-])" + re.escape(s) + r"(?![\w'-])" for s in shared), "\n".join(ans + plain)) else []
             with open(os.path.join(folder, "Answers.antt"), "w", encoding="utf-8") as f:
+                if fn.arms:
+                    imp.append(f"use {base}.Goals.{{{', '.join(sorted(fn.arms))}}}")
                 if fn.negated:
                     for mod, word in (("mathlib.Core.Path", "ap"), ("mathlib.Core.Bool", "not")):
                         if not any(re.search(r"[{ ]" + word + r"[,}]", u) for u in uses):

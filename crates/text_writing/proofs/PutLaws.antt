@@ -26,18 +26,14 @@ pub placed-nil : (at : ℕ) (old : List ℕ) → placed [] at old ≡ old
 unfolding placed
 placed-nil at old = rw (add-zero, append-nil) (take-append-drop at old)
 
--- bytes that are copied to the part of a text from an index on
-pub put_part : (line old part : List ℕ) (at n : ℕ) → n ≡ length line → at + length line ≤ length old → part ≡ take (length line) line ++ drop (length line) (take (length old - at) (drop at old)) → Put line old at (put_mid at (length old - at) old part) (at + n)
+-- bytes that are copied to the part of a text that is as long as they
+pub put_part : (line old part : List ℕ) (at n : ℕ) → n ≡ length line → part ≡ line → Put line old at (put_mid at n old part) (at + length line)
 unfolding placed
-put_part line old part at n en fits e =
-    let whole : take (length old - at) (drop at old) ≡ drop at old = take_all (length old - at) (drop at old) (omega (arith, length-drop at old)) in
-    let end : at + (length old - at) ≡ length old = omega arith in
-    let none : post_of at (length old - at) old ≡ [] = drop-drop (length old - at) at old ∙ ap (λ k. drop k old) end ∙ drop-length old in
-    let rest : drop (length line) (drop at old) ≡ drop (at + length line) old = drop-drop (length line) at old in
-    let put : part ≡ line ++ drop (at + length line) old = e ∙ ap (λ zs. take (length line) line ++ drop (length line) zs) whole ∙ ap (take (length line) line ++◌) rest ∙ ap (◌++ drop (at + length line) old) (take-length line) in
+put_part line old part at n en e =
+    let rest : post_of at n old ≡ drop (at + length line) old = drop-drop n at old ∙ ap (λ k. drop (at + k) old) en in
     record {
-      text = ap (λ zs. take at old ++ (part ++ zs)) none ∙ ap (take at old ++◌) (append-nil part ∙ put) ∙ sym (append_assoc (take at old) line (drop (at + length line) old));
-      after = ap (at +◌) en;
+      text = ap (λ zs. take at old ++ (part ++ zs)) rest ∙ ap (λ (p : List ℕ). take at old ++ (p ++ drop (at + length line) old)) e ∙ sym (append_assoc (take at old) line (drop (at + length line) old));
+      after = refl;
     }
 
 -- bytes that are put at the start

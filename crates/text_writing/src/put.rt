@@ -10,7 +10,9 @@ pub fn put_line(text: &mut [u8], at: usize, line: &[u8]) -> usize
     requires { at + length line.now ≤ length text.old }
     ensures { Put line.now text.old at text.new result }
 {
-    at + bytes::copy(line, &mut text[at..])
+    let end = at + line.len();
+    text[at..end].copy_from_slice(line);
+    end
 }
 
 // Puts a number, from its last digit to its first, and the byte that ends its field.

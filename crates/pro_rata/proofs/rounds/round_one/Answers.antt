@@ -1,0 +1,58 @@
+-- `round_one` meets its contract. The invariant: the whole and decimal parts of the positions passed are written, and the whole parts summed. The measure is what is left of the list.
+use Prim.Native.Nat.{ℕ, ◌+◌, ◌-◌, ◌≤◌}
+use mathlib.Core.Path.{◌≡◌, refl, ap, ap₂, ◌∙◌}
+use mathlib.Core.List.{List}
+use native.Mathlib.Omega.{arith}
+use borrow.Author.Rules.{rules}
+use lib.ListN.{length}
+use Rattle.series.specs.Sums.{sum_below, listed}
+use Rattle.series.specs.ProRata.{whole_part, decimal_part}
+use Rattle.series.proofs.SumLaws.{sum-next}
+use Rattle.pro_rata.specs.Rounds.{at, units}
+use Rattle.pro_rata.specs.declared.rounds.Percentage.{Percentage}
+use Rattle.pro_rata.proofs.JudgedLaws.{shorts_le, assigned_le, wholes_are, decimals_are}
+use Rattle.series.proofs.ListLaws.{filled, fill_none, fill_more, fill_all, fill_length}
+use Rattle.pro_rata.proofs.rounds.round_one.Invariants.{wholes, decimals_of}
+use Rattle.pro_rata.proofs.rounds.round_one.Goals as goal
+
+pub loop-i-init : goal.loop-i-init
+unfolding sum_below
+loop-i-init c = (omega arith, fill_none _ _, fill_none _ _, refl)
+
+pub assignment-assignment-requires : goal.assignment-assignment-requires
+assignment-assignment-requires c = (shorts_le _ _ _ _ c.requires.0 c.loop-i.i c.loop-i-test.true, c.of-percentage.ensures.1)
+
+pub bounds-amounts-i : goal.bounds-amounts-i
+bounds-amounts-i c = omega (arith, fill_length _ _ _ _ c.loop-i.invariant.1 (omega arith))
+
+pub bounds-parts-i : goal.bounds-parts-i
+bounds-parts-i c = omega (arith, fill_length _ _ _ _ c.loop-i.invariant.2 (omega arith))
+
+pub overflow_add-sum : goal.overflow_add-sum
+overflow_add-sum c =
+    let next-sum : c.loop-i.sum + c.assignment-assignment.result.whole ≡ sum_below (wholes c.of-percentage.result c.args.shorts.now) (c.loop-i.i + 1) = let f = wholes c.of-percentage.result c.args.shorts.now in
+    omega (arith, c.loop-i.invariant.3, c.assignment-assignment.ensures.0, sum-next f c.loop-i.i) in
+    let whole = wholes_are _ _ _ _ c.requires.0 _ c.of-percentage.ensures.0 in
+    omega (arith, next-sum, ap (λ (f : ℕ → ℕ). sum_below f (c.loop-i.i + 1)) whole, assigned_le _ _ _ _ c.requires.0 (c.loop-i.i + 1) (omega arith))
+
+pub loop-i-preserved : goal.loop-i-preserved
+loop-i-preserved c =
+    let next-sum : c.loop-i.sum + c.assignment-assignment.result.whole ≡ sum_below (wholes c.of-percentage.result c.args.shorts.now) (c.loop-i.i + 1) = let f = wholes c.of-percentage.result c.args.shorts.now in
+    omega (arith, c.loop-i.invariant.3, c.assignment-assignment.ensures.0, sum-next f c.loop-i.i) in
+    (omega arith, fill_more _ _ _ _ _ c.loop-i.invariant.1 (omega arith) c.assignment-assignment.ensures.0, fill_more _ _ _ _ _ c.loop-i.invariant.2 (omega arith) c.assignment-assignment.ensures.1, next-sum)
+
+pub shape_of-amounts : goal.shape_of-amounts
+shape_of-amounts c = omega (arith, fill_length _ _ _ _ c.loop-i.invariant.1 (omega arith))
+
+pub shape_of-parts : goal.shape_of-parts
+shape_of-parts c = omega (arith, fill_length _ _ _ _ c.loop-i.invariant.2 (omega arith))
+
+pub returns : goal.returns
+returns c = let e : c.loop-i.i ≡ length c.args.shorts.now = omega arith in
+    let whole = wholes_are _ _ _ _ c.requires.0 _ c.of-percentage.ensures.0 in
+    let decimal = decimals_are _ _ _ _ c.requires.0 _ c.of-percentage.ensures.0 in
+    record {
+      assigned = c.loop-i.invariant.3 ∙ ap₂ sum_below whole e;
+      written = c.loop-i.invariant.1 ∙ fill_all _ _ _ (omega arith) ∙ ap₂ listed whole e;
+      parted = c.loop-i.invariant.2 ∙ fill_all _ _ _ (omega arith) ∙ ap₂ listed decimal e;
+    }

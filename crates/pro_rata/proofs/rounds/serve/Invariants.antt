@@ -1,0 +1,27 @@
+-- `serve` meets its contract. The invariant: the tied positions passed are counted, and they and the larger ones are served. The measure is what is left of the list.
+-- what position i holds at the end
+use Prim.Native.Nat.{ℕ, ◌+◌, ◌-◌, ◌≤◌}
+use mathlib.Core.Path.{◌≡◌, refl, ap, ap₂, ◌∙◌}
+use mathlib.Core.Logic.{⊎_elim}
+use mathlib.Core.List.{List}
+use native.Mathlib.Omega.{arith}
+use borrow.Author.Rules.{rules}
+use lib.ListN.{length}
+use Rattle.series.specs.Sums.{listed, count_below, sum_below}
+use Rattle.series.specs.ProRata.{equal}
+use Rattle.series.specs.CutOff.{at_cut_off, by_cut_off}
+use Rattle.series.proofs.ProRataLaws.{equal-more, equal-same, equal-before}
+use Rattle.pro_rata.specs.Rounds.{at}
+use Rattle.pro_rata.specs.declared.rounds.RoundTwo.{RoundTwo}
+use Rattle.series.proofs.ListLaws.{filled, fill_none, fill_more, fill_rest, fill_all, fill_length}
+use Rattle.pro_rata.proofs.RoundTwoLaws.{one-most}
+use Rattle.pro_rata.proofs.rounds.serve.Given as goal
+
+abbrev pub given : RoundTwo → List ℕ → List ℕ → ℕ → ℕ
+given round parts amounts i = at amounts i + by_cut_off (at parts) round.cut round.first round.tied round.served i
+
+abbrev pub invariant-loop-i : goal.invariant-loop-i
+invariant-loop-i l = (l.i ≤ length l.parts) × (l.number ≡ equal (at l.parts) l.round.cut l.i) × (l.amounts ≡ filled (given l.round l.parts l.initial.amounts) l.i l.initial.amounts)
+
+abbrev pub decreases-loop-i : goal.decreases-loop-i
+decreases-loop-i l = length l.parts - l.i
