@@ -7,9 +7,9 @@ ghost use Rattle.console.specs.Inputs.{Within};
 ghost use Rattle.responses.specs.Responses.{response_of};
 ghost use Rattle.explanation.specs.Explanation.{LONGEST as longest};
 
-use libc::{EINTR, STDERR_FILENO, STDIN_FILENO, STDOUT_FILENO};
 use responses::Response;
 use series::Refusal;
+use std::io::{ErrorKind, Read, Write};
 
 // What reading came to: a number of bytes, or a failure, which is never taken for the end of the input.
 #[derive(Clone, Copy)]
@@ -23,17 +23,18 @@ const INTERRUPTIONS: u32 = 1000000;
 
 // Reads once; no bytes are the end of the input.
 // Left open: that standard input is read, that the bytes stand in the buffer, and which error is a failure. Tests: `interrupted_and_short`, `interrupted_without_end` and `a_read_that_fails` of streams.rs.
-fn read_some(buffer: &mut [u8]) -> Input
+fn read_some<R: Read>(input: &mut R, buffer: &mut [u8]) -> Input
     ensures { Within result (length buffer.old) }
 {
     let mut left = INTERRUPTIONS;
     while 0 < left {
-        let got = libc::read(STDIN_FILENO, buffer);
-        if 0 <= got {
-            return Input::Bytes(io::count(got, buffer));
-        }
-        if os::errno() != EINTR {
-            return Input::Failed;
+        match input.read(buffer) {
+            Ok(n) => return Input::Bytes(n),
+            Err(error) => {
+                if error.kind() != ErrorKind::Interrupted {
+                    return Input::Failed;
+                }
+            }
         }
         left -= 1;
     }
@@ -42,12 +43,12 @@ fn read_some(buffer: &mut [u8]) -> Input
 
 // Reads until the input ends or the buffer is full.
 // Left open: that no byte of the input is left out before either, and that each stands in its place. Tests: `interrupted_and_short` of streams.rs, `a_few_bytes_at_a_time` and `empty_and_too_long` of program.rs; a failure after some bytes, `a_read_that_fails_midway` of program.rs.
-pub fn read_input(buffer: &mut [u8]) -> Input
+pub fn read_input<R: Read>(input: &mut R, buffer: &mut [u8]) -> Input
     ensures { Within result (length buffer.old) }
 {
     let mut n = 0;
     while n < buffer.len() {
-        let Input::Bytes(more) = read_some(&mut buffer[n..]) else {
+        let Input::Bytes(more) = read_some(input, &mut buffer[n..]) else {
             return Input::Failed;
         };
         if more == 0 {
@@ -60,17 +61,18 @@ pub fn read_input(buffer: &mut [u8]) -> Input
 
 // Writes once, and hands back the number of bytes written, 0 where that failed.
 // Left open: that the bytes go to the stream of the descriptor, and that as many were written as are counted. Tests: `interrupted_and_short`, `interrupted_without_end` and `a_write_that_fails` of streams.rs.
-fn write_some(descriptor: i32, bytes: &[u8]) -> usize
+fn write_some<W: Write>(stream: &mut W, bytes: &[u8]) -> usize
     ensures { result ≤ length bytes.now }
 {
     let mut left = INTERRUPTIONS;
     while 0 < left {
-        let put = libc::write(descriptor, bytes);
-        if 0 <= put {
-            return io::count(put, bytes);
-        }
-        if os::errno() != EINTR {
-            return 0;
+        match stream.write(bytes) {
+            Ok(n) => return n,
+            Err(error) => {
+                if error.kind() != ErrorKind::Interrupted {
+                    return 0;
+                }
+            }
         }
         left -= 1;
     }
@@ -79,12 +81,12 @@ fn write_some(descriptor: i32, bytes: &[u8]) -> usize
 
 // Writes until all is written or a write fails, and hands back the number of bytes written.
 // Left open: that all is written where no write fails, each byte once and in order. Tests: `interrupted_and_short` and, for standard error, `an_interrupted_explanation` of streams.rs.
-fn write_whole(descriptor: i32, bytes: &[u8]) -> usize
+fn write_whole<W: Write>(stream: &mut W, bytes: &[u8]) -> usize
     ensures { result ≤ length bytes.now }
 {
     let mut n = 0;
     while n < bytes.len() {
-        let more = write_some(descriptor, &bytes[n..]);
+        let more = write_some(stream, &bytes[n..]);
         if more == 0 {
             return n;
         }
@@ -95,34 +97,40 @@ fn write_whole(descriptor: i32, bytes: &[u8]) -> usize
 
 // Says words to a person on standard error, after the program's name. How many bytes of them are written the system decides.
 // Left open: that they go to standard error, and what stands before them. Tests: `a_read_that_fails` and `a_write_that_fails` of streams.rs, which compare both streams.
-pub fn say(program: &[u8], words: &[u8]) -> usize
+pub fn say<W: Write>(errors: &mut W, program: &[u8], words: &[u8]) -> usize
     ensures { result ≤ length words.now }
 {
-    write_whole(STDERR_FILENO, program);
-    write_whole(STDERR_FILENO, b": ");
-    write_whole(STDERR_FILENO, words)
+    write_whole(errors, program);
+    write_whole(errors, b": ");
+    write_whole(errors, words)
 }
 
 // Writes to standard output, and where not all is written says so. How many bytes are written the system decides.
 // Left open: that they go to standard output, and which of the two lines is said where not all, or nothing, is written. Tests: `a_write_that_fails` and `ranges_that_cannot_be_written` of streams.rs.
-fn print(program: &[u8], unwhole: &[u8], bytes: &[u8]) -> usize
+fn print<P: Write, E: Write>(
+    printed: &mut P,
+    errors: &mut E,
+    program: &[u8],
+    unwhole: &[u8],
+    bytes: &[u8],
+) -> usize
     ensures { result ≤ length bytes.now }
 {
-    let written = write_whole(STDOUT_FILENO, bytes);
+    let written = write_whole(printed, bytes);
     if written == bytes.len() {
         return written;
     }
     if written == 0 {
-        say(program, b"the output could not be written\n");
+        say(errors, program, b"the output could not be written\n");
     } else {
-        say(program, unwhole);
+        say(errors, program, unwhole);
     }
     written
 }
 
 // Says what the number of a refusal means. How many bytes of its line are written the system decides.
 // Left open: that the number and its words are those of the refusal, and go to standard error. Tests: `an_interrupted_explanation` of streams.rs, `changes_of_any_terms` and `random_texts` of program.rs.
-fn explain(program: &[u8], refusal: Refusal) -> usize
+fn explain<W: Write>(errors: &mut W, program: &[u8], refusal: Refusal) -> usize
     ensures { result ≤ longest }
 {
     let number = series::number(refusal);
@@ -130,34 +138,48 @@ fn explain(program: &[u8], refusal: Refusal) -> usize
     let k = io::decimal(number as u64, &mut digits);
     let mut words = [0u8; explanation::LONGEST];
     let n = explanation::explain(number, &mut words);
-    say(program, b"refused, ");
-    write_whole(STDERR_FILENO, &digits[..k]);
-    write_whole(STDERR_FILENO, b": ");
-    write_whole(STDERR_FILENO, &words[..n])
+    say(errors, program, b"refused, ");
+    write_whole(errors, &digits[..k]);
+    write_whole(errors, b": ");
+    write_whole(errors, &words[..n])
 }
 
 // Writes the first n bytes of an output, or all of a shorter one.
 // Left open: that it is those bytes that are written. Tests: `case_m_in_full` and `the_exhibit_in_full` of program.rs.
-fn print_first(program: &[u8], unwhole: &[u8], output: &[u8], n: usize) -> usize
+fn print_first<P: Write, E: Write>(
+    printed: &mut P,
+    errors: &mut E,
+    program: &[u8],
+    unwhole: &[u8],
+    output: &[u8],
+    n: usize,
+) -> usize
     ensures { result ≤ n }
 {
     if output.len() < n {
-        return print(program, unwhole, output);
+        return print(printed, errors, program, unwhole, output);
     }
-    print(program, unwhole, &output[..n])
+    print(printed, errors, program, unwhole, &output[..n])
 }
 
 // Writes what a call printed to an output, and says what a refusal means once its lines are written. How many bytes are written the system decides.
 // Left open: that the output's bytes go to standard output, and that a refusal, and nothing else, is said on standard error, after its lines. Tests: `changes_of_any_terms` and `random_texts` of program.rs; that no refusal is said whose lines are not whole, `a_write_that_fails` of streams.rs.
-pub fn tell(program: &[u8], unwhole: &[u8], response: Response, output: &[u8]) -> usize
+pub fn tell<P: Write, E: Write>(
+    printed: &mut P,
+    errors: &mut E,
+    program: &[u8],
+    unwhole: &[u8],
+    response: Response,
+    output: &[u8],
+) -> usize
     ensures { result ≤ (response_of response).written }
 {
     match response {
-        Response::Printed(n) => print_first(program, unwhole, output, n),
+        Response::Printed(n) => print_first(printed, errors, program, unwhole, output, n),
         Response::Refused(n, refusal) => {
-            let written = print_first(program, unwhole, output, n);
+            let written = print_first(printed, errors, program, unwhole, output, n);
             if written == n {
-                explain(program, refusal);
+                explain(errors, program, refusal);
             }
             written
         }
