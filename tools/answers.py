@@ -336,6 +336,7 @@ def top_tuple(body):
         return None
     first, rest = b[1:comma], b[comma + 1 : -1].strip()
     # a flat tuple has further commas at this depth
+    rest = rest.rstrip(",").rstrip()
     more = top_commas(rest)
     if more:
         return [first.strip()] + more
@@ -355,7 +356,8 @@ def top_commas(text):
             start = i + 1
     if not parts:
         return None
-    return parts + [text[start:].strip()]
+    last = text[start:].strip()
+    return parts + ([last] if last else [])
 
 
 def clauses(body, names):
@@ -463,7 +465,7 @@ def convert(crate, folder, fn):
                 fn.todo.append("shape of " + new)
                 continue
             params, body = se
-            if re.fullmatch(r"\s*(search rules|omega arith|omega \(arith\))\s*", body):
+            if re.fullmatch(r"\s*(search rules|omega arith|omega \(arith\))\s*", body) and not unf:
                 continue
             place = fn.at.get(need)
             turner = Turner(fn, helpers)
