@@ -26,8 +26,7 @@ const INTERRUPTIONS: u32 = 1000000;
 fn read_some<R: Read>(input: &mut R, buffer: &mut [u8]) -> Input
     ensures { Within result (length buffer.old) }
 {
-    let mut left = INTERRUPTIONS;
-    while 0 < left {
+    for _ in 0..INTERRUPTIONS {
         match input.read(buffer) {
             Ok(n) => return Input::Bytes(n),
             Err(error) => {
@@ -36,7 +35,6 @@ fn read_some<R: Read>(input: &mut R, buffer: &mut [u8]) -> Input
                 }
             }
         }
-        left -= 1;
     }
     Input::Failed
 }
@@ -64,8 +62,7 @@ pub fn read_input<R: Read>(input: &mut R, buffer: &mut [u8]) -> Input
 fn write_some<W: Write>(stream: &mut W, bytes: &[u8]) -> usize
     ensures { result ≤ length bytes.now }
 {
-    let mut left = INTERRUPTIONS;
-    while 0 < left {
+    for _ in 0..INTERRUPTIONS {
         match stream.write(bytes) {
             Ok(n) => return n,
             Err(error) => {
@@ -74,7 +71,6 @@ fn write_some<W: Write>(stream: &mut W, bytes: &[u8]) -> usize
                 }
             }
         }
-        left -= 1;
     }
     0
 }
