@@ -2,13 +2,13 @@
 # Assigns the series in the file $1 (a pipe will do: /dev/stdin or -), and prints the amounts only where the whole list is there and can be booked. Under R that has the ranges too, which are not printed.
 # The exit status is 0 then, 2 for a wrong number of arguments, and 1 where anything else stands in the way.
 # A text that was cut off at the end of a line is a shorter series, and is booked as such: see first that all of it came.
-# ASSIGN: the program (target/bin/assign of the repository).
+# ASSIGN: the program (crates/assign/out/assign of the repository).
 set -eu
 if [ $# -ne 1 ]; then
     echo "usage: book.sh SERIES" >&2
     exit 2
 fi
-assign=${ASSIGN:-$(dirname "$0")/../target/bin/assign}
+assign=${ASSIGN:-$(dirname "$0")/../crates/assign/out/assign}
 work=$(mktemp -d)
 trap 'rm -rf "$work"' EXIT
 

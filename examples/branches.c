@@ -5,7 +5,7 @@
  * Prints the merged list and then the assigned contracts, each as a line of names and a line for each position. The
  * refused list is told on standard error, with what its number means. Exit status: 0 where nothing is refused, else 1.
  *
- *   gcc -I include examples/branches.c target/staticlib/libdilbreth.a -o branches
+ *   gcc -I include examples/branches.c crates/dilbreth/out/libdilbreth.a -o branches
  */
 #include <inttypes.h>
 #include <stdio.h>

@@ -5,7 +5,7 @@
  * Prints a line of names and a line for each position of the series that are allocated, zero amounts too. A refused
  * series is told on standard error, with what its number means. Exit status: 0 where all are allocated, else 1.
  *
- *   gcc -I include examples/broker.c target/staticlib/libdilbreth.a -o broker
+ *   gcc -I include examples/broker.c crates/dilbreth/out/libdilbreth.a -o broker
  */
 #include <inttypes.h>
 #include <stdio.h>

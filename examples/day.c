@@ -10,7 +10,7 @@
  * means. Each count is one to ten digits. Exit status: 0 for a result, 1 for a refusal or an output that could not be
  * written, 2 for wrong arguments.
  *
- *   gcc -I include examples/day.c target/staticlib/libdilbreth.a -o day
+ *   gcc -I include examples/day.c crates/dilbreth/out/libdilbreth.a -o day
  */
 #include <inttypes.h>
 #include <stdio.h>

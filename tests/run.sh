@@ -1,15 +1,16 @@
 #!/usr/bin/env bash
 # The Rust tests, the C test and, where fpc is installed, the Pascal test, against the archive and the programs.
-# DILBRETH_LIB: the folder of libdilbreth.a (target/staticlib of the repository).
-# DILBRETH_ASSIGN: the program that assigns (target/bin/assign of the repository).
-# DILBRETH_CHANGE_FORM: the program that changes a text (target/bin/change_form of the repository).
+# They must be there: `rt ci` builds the programs, and so does `rt run` in the folder of each, and `rt lib` in crates/dilbreth the archive.
+# DILBRETH_LIB: the folder of libdilbreth.a (crates/dilbreth/out of the repository).
+# DILBRETH_ASSIGN: the program that assigns (crates/assign/out/assign of the repository).
+# DILBRETH_CHANGE_FORM: the program that changes a text (crates/change_form/out/change_form of the repository).
 # DILBRETH_BUILD: where to build (build of the repository).
 set -euo pipefail
 here=$(cd "$(dirname "${BASH_SOURCE[0]}")" && pwd)
 root=$(cd "$here/.." && pwd)
-export DILBRETH_LIB=${DILBRETH_LIB:-$root/target/staticlib}
-export DILBRETH_ASSIGN=${DILBRETH_ASSIGN:-$root/target/bin/assign}
-export DILBRETH_CHANGE_FORM=${DILBRETH_CHANGE_FORM:-$root/target/bin/change_form}
+export DILBRETH_LIB=${DILBRETH_LIB:-$root/crates/dilbreth/out}
+export DILBRETH_ASSIGN=${DILBRETH_ASSIGN:-$root/crates/assign/out/assign}
+export DILBRETH_CHANGE_FORM=${DILBRETH_CHANGE_FORM:-$root/crates/change_form/out/change_form}
 export DILBRETH_BUILD=${DILBRETH_BUILD:-$root/build}
 # cargo runs tests in another folder.
 DILBRETH_LIB=$(realpath -m "$DILBRETH_LIB")

@@ -477,7 +477,7 @@ def convert(crate, folder, fn):
                 made = clauses(made, asked)
             for local, typ, b in reversed(turner.lets):
                 made = f"\n    let {local} : {typ} = {b} in" + ("\n    " if not made.startswith("\n") else "") + made
-            u = unf + [x for x in turner.unfold if x not in unf]
+            u = [x for x in unf + [x for x in turner.unfold if x not in unf] if x not in helpers]
             us = ("unfolding " + " ".join(u) + "\n") if u else ""
             more = ""
             ans.append("".join(x + "\n" for x in comment if comment is not head) + f"pub {new} : goal.{new}\n{us}{new} c{more} ={'' if made.startswith(chr(10)) else ' '}{made}")

@@ -1,12 +1,12 @@
 #!/usr/bin/env bash
 # Builds the Pascal test against the unit and the archive, and runs it; then sees that a number of another size does not
 # compile, and that an archive of another version does not link.
-# DILBRETH_LIB: the folder of libdilbreth.a (target/staticlib of the repository).
+# DILBRETH_LIB: the folder of libdilbreth.a (crates/dilbreth/out of the repository).
 set -euo pipefail
 export LC_ALL=C
 here=$(cd "$(dirname "${BASH_SOURCE[0]}")" && pwd)
 root=$(cd "$here/../.." && pwd)
-lib=${DILBRETH_LIB:-$root/target/staticlib}
+lib=${DILBRETH_LIB:-$root/crates/dilbreth/out}
 out=${DILBRETH_BUILD:-$root/build}/pascal
 mkdir -p "$out/other"
 

@@ -7,7 +7,7 @@ use mathlib.Core.Logic.{⊎_elim}
 use native.Mathlib.Omega.{arith}
 use borrow.Author.Tests.{eq-eqb, le-ltb}
 use denote.Enum.Declared.{tag_of}
-use types.Run.{OneOf}
+use Rattle.series.specs.declared.Refusal.{Refusal}
 use lib.Dec.{eqb}
 use lib.ListN.{length, drop}
 use lib.Seq.{drop-length}
@@ -66,13 +66,13 @@ tables_are accounts shorts amounts room l =
       le-ltb MOST_LINES n (omega (arith, l.same, l.few)),
     )
 
--- no ranges under W, P and L, whose tags are 0 to 2
-pub none_ranged : (m : Method) → OneOf (0 ∷ 1 ∷ 2 ∷ []) (tag_of the-method m) → (accounts shorts : List ℕ) → ranges_by m accounts shorts ≡ []
+-- no ranges under W, P and L
+pub none_ranged : (m : Method) → (m ≡ Method.RemainderDraw → ⊥) → (accounts shorts : List ℕ) → ranges_by m accounts shorts ≡ []
 unfolding ranges_by
 none_ranged Method.Wheel k accounts shorts = refl
 none_ranged Method.ProRata k accounts shorts = refl
 none_ranged Method.Lottery k accounts shorts = refl
-none_ranged Method.RemainderDraw k accounts shorts = absurd (⊎_elim (λ z. omega arith) (⊎_elim (λ z. omega arith) (λ z. omega arith)) k)
+none_ranged Method.RemainderDraw k accounts shorts = absurd (k refl)
 
 -- ---- the allocating call
 
@@ -94,18 +94,18 @@ module _ (f : Form) (s : Series) where
   is_value (value T) x e = let is : allocation T ≡ x = value_is (sym e) in ap value (ap (λ (y : Allocation). y.total) is)
   is_value (refused k) x e = absurd (never k x (sym e))
 
-  -- an answer that is an allocation, whose tag is 0 to 5
-  allocation_in : (a : Answer) → OneOf (0 ∷ 1 ∷ 2 ∷ 3 ∷ 4 ∷ 5 ∷ []) (tag_of the_type a) → (x : Allocation) × (answer_of a ≡ value x)
+  -- an answer that is no refusal is an allocation
+  allocation_in : (a : Answer) → ((r : Refusal) → a ≡ Answer.Refused r → ⊥) → (x : Allocation) × (answer_of a ≡ value x)
   allocation_in (Answer.Wheel T b) k = (_, refl)
   allocation_in (Answer.ProRata T l) k = (_, refl)
   allocation_in (Answer.Lottery T p) k = (_, refl)
   allocation_in (Answer.LotteryUndrawn T) k = (_, refl)
   allocation_in (Answer.RemainderDraw T p) k = (_, refl)
   allocation_in (Answer.RemainderUndrawn T) k = (_, refl)
-  allocation_in (Answer.Refused q) k = absurd (⊎_elim (λ z. omega arith) (⊎_elim (λ z. omega arith) (⊎_elim (λ z. omega arith) (⊎_elim (λ z. omega arith) (⊎_elim (λ z. omega arith) (λ z. omega arith))))) k)
+  allocation_in (Answer.Refused q) k = absurd (k q refl)
 
   -- the call answered with an allocation
-  module _ (a : Answer) (k : OneOf (0 ∷ 1 ∷ 2 ∷ 3 ∷ 4 ∷ 5 ∷ []) (tag_of the_type a)) (e : answer_of a ≡ answer s (length s.shorts)) where
+  module _ (a : Answer) (k : (r : Refusal) → a ≡ Answer.Refused r → ⊥) (e : answer_of a ≡ answer s (length s.shorts)) where
     accepted : verdict s (length s.shorts) ≡ value (allocation_in a k).0.total
     unfolding answer
     accepted = is_value (verdict s (length s.shorts)) (allocation_in a k).0 (sym (allocation_in a k).1 ∙ e)

@@ -10,8 +10,3 @@ mod Ends
 mod TurnLaws
 mod JobsCallLaws
 pub mod PromiseLaws
-pub mod Locals
-pub mod Again
-pub mod Parameters
-pub mod Lending
-mod Shared

@@ -11,7 +11,7 @@ use Rattle.series.specs.Refusals.{NoneApplies}
 use Rattle.series.proofs.AcceptedLaws.{or-false}
 use Rattle.series.proofs.ResultLaws.{never, value_is, Stepped, stepped}
 use Rattle.series.proofs.RowLaws.{value_passed, passed_value}
-use Rattle.merging.specs.Merging.{Position, PositionList, Handed, positions, shorts_of, merged, judged_alone, merged_rows, judged_merged, merge_into, handed, ListsMerged, Merges, merged_of}
+use Rattle.merging.specs.Merging.{Position, PositionList, Handed, positions, shorts_of, judged_alone, merged_rows, judged_merged, merge_into, handed, ListsMerged, Merges, merged_of}
 use Rattle.merging.specs.Walks.{judged_both, Bounded, BothBounded}
 use Rattle.merging.proofs.MergeLaws.{merged-total}
 use Rattle.merging.proofs.JudgeLaws.{faultless}

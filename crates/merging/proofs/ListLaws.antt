@@ -16,7 +16,7 @@ use Rattle.series.specs.declared.Method.{Method}
 use Rattle.series.proofs.AcceptedLaws.{or-false, positive, list_verdict_lem}
 use Rattle.series.proofs.CodeLaws.{codes_are_accounts}
 use Rattle.list_judging.proofs.ListLaws.{judged_list}
-use Rattle.merging.specs.Merging.{Position, PositionList, list_of, paired, positions, accounts_of, shorts_of, merged, judged_alone, merged_of}
+use Rattle.merging.specs.Merging.{Position, PositionList, list_of, paired, positions, accounts_of, shorts_of, judged_alone, merged_of}
 use Rattle.merging.proofs.MergeLaws.{Between, merged-length, Rises, merged_rises}
 use Rattle.merging.proofs.JudgeLaws.{faultless}
 use Rattle.merging.proofs.WalkLaws.{accounts-long, paired-accounts}

@@ -14,7 +14,7 @@ use Rattle.series.specs.Refusals.{NoneApplies, list_verdict}
 use Rattle.series.specs.declared.Method.{Method}
 use Rattle.series.proofs.ResultLaws.{value_is, stepped}
 use Rattle.series.proofs.RowLaws.{value_passed}
-use Rattle.merging.specs.Merging.{Position, PositionList, list_of, paired, positions, accounts_of, shorts_of, merged, judged_alone, merged_rows, judged_merged, merge_into, Handed, handed, MergingCall, merged_of}
+use Rattle.merging.specs.Merging.{Position, PositionList, list_of, paired, positions, accounts_of, shorts_of, judged_alone, merged_rows, judged_merged, merge_into, Handed, handed, MergingCall, merged_of}
 use Rattle.merging.proofs.MergeLaws.{Between, held_by, merged-held, only_list, either_order}
 use Rattle.merging.proofs.JudgeLaws.{faultless}
 use Rattle.merging.proofs.WalkLaws.{paired-accounts, paired-shorts, paired_back}

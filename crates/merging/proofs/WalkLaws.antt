@@ -10,7 +10,7 @@ use lib.ListN.{length, get_or, set, take, drop, length-append, length-drop, leng
 use lib.Seq.{sets, sets-eq, length-sets, take-suc, drop-cons, drop-drop, get_or-drop, length-take-le}
 use borrow.Author.Tests.{lt-ltb, le-ltb}
 use Rattle.series.specs.Outputs.{onto}
-use Rattle.merging.specs.Merging.{Position, paired, positions, accounts_of, shorts_of, added, merged}
+use Rattle.merging.specs.Merging.{Position, paired, accounts_of, shorts_of, added, merged}
 
 -- what stands past the last position
 abbrev pub none : Position

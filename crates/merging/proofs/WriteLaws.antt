@@ -11,7 +11,7 @@ use Rattle.series.specs.Results.{value}
 use Rattle.series.specs.Outputs.{onto, Lent, lent}
 use Rattle.series.specs.Series.{MOST_CONTRACTS}
 use Rattle.series.proofs.SumLaws.{total_term}
-use Rattle.merging.specs.Merging.{Position, PositionList, positions, accounts_of, shorts_of, added, merged, ListsMerged, merged_of}
+use Rattle.merging.specs.Merging.{Position, PositionList, positions, accounts_of, shorts_of, added, ListsMerged, merged_of}
 use Rattle.merging.specs.Walks.{Fitting, FittingFrom, PutFrom}
 use Rattle.merging.proofs.MergeLaws.{merged-length}
 use Rattle.merging.proofs.WalkLaws.{none, Walked, walked_start, account-at, accounts-long, shorts-at, Step, step_first, step_second, step_both, more, walked_at, walked_next, walked_end, walked_count, Written, written-length, written_next, written_all, paired-accounts, paired-shorts, map-drop}

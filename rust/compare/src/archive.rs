@@ -1,4 +1,4 @@
-//! Where the archive is: DILBRETH_LIB, or target/staticlib of the repository.
+//! Where the archive is: DILBRETH_LIB, or crates/dilbreth/out of the repository.
 
 use std::path::PathBuf;
 
@@ -11,7 +11,7 @@ pub fn root() -> PathBuf {
 pub fn folder() -> PathBuf {
     match std::env::var_os("DILBRETH_LIB") {
         Some(given) => PathBuf::from(given),
-        None => root().join("target/staticlib"),
+        None => root().join("crates/dilbreth/out"),
     }
 }
 

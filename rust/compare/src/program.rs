@@ -1,5 +1,5 @@
-//! Runs the programs, `assign` (DILBRETH_ASSIGN, or target/bin/assign of the repository) and `change_form`
-//! (DILBRETH_CHANGE_FORM, or target/bin/change_form).
+//! Runs the programs, `assign` (DILBRETH_ASSIGN, or crates/assign/out/assign of the repository) and `change_form`
+//! (DILBRETH_CHANGE_FORM, or crates/change_form/out/change_form).
 
 use std::fs::File;
 use std::io::{Read, Write};
@@ -8,6 +8,8 @@ use std::process::{Child, Command, Output, Stdio};
 use std::sync::atomic::{AtomicU32, Ordering};
 use std::thread;
 use std::time::Duration;
+
+use crate::archive;
 
 /// How a text reaches the program.
 #[derive(Clone, Copy, Debug, PartialEq)]
@@ -68,7 +70,7 @@ impl Program {
         };
         match std::env::var_os(variable) {
             Some(given) => PathBuf::from(given),
-            None => PathBuf::from(concat!(env!("CARGO_MANIFEST_DIR"), "/../../target/bin")).join(self.name()),
+            None => archive::root().join("crates").join(self.name()).join("out").join(self.name()),
         }
     }
 

@@ -39,7 +39,7 @@ fn blocks(document: &str) -> Vec<Vec<&str>> {
 
 // The commands of a document: lines of indented blocks that a shell is to run, without a remark at the end.
 fn commands(document: &str) -> Vec<&str> {
-    let starts = ["rt ", "gcc ", "./", ".ci/", "target/", "examples/", "cargo ", "sh ", "bash "];
+    let starts = ["(cd ", "rt ", "gcc ", "./", ".ci/", "crates/", "examples/", "cargo ", "sh ", "bash "];
     let lines = blocks(document).concat().into_iter();
     let commands = lines.filter(|line| starts.iter().any(|start| line.starts_with(start)));
     commands.map(|line| line.split("    #").next().unwrap().trim_end()).collect()
@@ -49,22 +49,23 @@ fn commands(document: &str) -> Vec<&str> {
 // proofs and the links of the programs in the gate, and the others below.
 #[test]
 fn every_command_is_tested() {
-    let first = "rt check assign && target/bin/assign < examples/lottery.txt";
+    let first = "(cd crates/assign && rt run) < examples/lottery.txt";
+    let archive = "(cd crates/dilbreth && rt lib)";
     let book = "examples/book.sh SERIES.txt > list.csv";
     assert_eq!(commands(README), [first, book, ".ci/run"]);
     let of_guide = commands(GUIDE).into_iter().filter(|command| !command.starts_with("./day "));
     let expected = [
-        "rt staticlib dilbreth",
-        "gcc -I include examples/day.c target/staticlib/libdilbreth.a -o day",
+        archive,
+        "gcc -I include examples/day.c crates/dilbreth/out/libdilbreth.a -o day",
         first,
         book,
-        "rt check change_form && target/bin/change_form < examples/last-numbers.txt",
-        "rt staticlib dilbreth",
-        "gcc -I include tests/c/dilbreth_test.c target/staticlib/libdilbreth.a -o dilbreth_test",
+        "(cd crates/change_form && rt run) < examples/last-numbers.txt",
+        archive,
+        "gcc -I include tests/c/dilbreth_test.c crates/dilbreth/out/libdilbreth.a -o dilbreth_test",
     ];
     assert_eq!(of_guide.collect::<Vec<_>>(), expected);
-    for step in ["rt ci\n", "rt staticlib dilbreth\n", "bash tests/run.sh\n"] {
-        assert!(GATE.contains(step), ".ci/run has no {step:?}");
+    for step in ["rt ci", archive, "bash tests/run.sh"] {
+        assert!(GATE.contains(&format!("{step}\n")), ".ci/run has no {step:?}");
     }
 }
 
@@ -72,7 +73,7 @@ fn every_command_is_tested() {
 #[test]
 fn the_first_allocation() {
     let blocks = blocks(README);
-    assert_eq!(blocks[0], ["rt check assign && target/bin/assign < examples/lottery.txt"]);
+    assert_eq!(blocks[0], ["(cd crates/assign && rt run) < examples/lottery.txt"]);
     assert_eq!(blocks[1].join("\n") + "\n", example("lottery.out"));
     assert_eq!(blocks[2].join("\n") + "\n", example("lottery.txt"));
     let found = Assign.run(example("lottery.txt").as_bytes(), Feed::File);
@@ -102,14 +103,14 @@ fn the_programs_in_c_are_built_as_shown() {
     fs::create_dir_all(&folder).unwrap();
     let archive = match std::env::var_os("DILBRETH_LIB") {
         Some(given) => PathBuf::from(given).join("libdilbreth.a"),
-        None => root().join("target/staticlib/libdilbreth.a"),
+        None => root().join("crates/dilbreth/out/libdilbreth.a"),
     };
     let shown: Vec<&str> = commands(GUIDE).into_iter().filter(|command| command.starts_with("gcc ")).collect();
     assert_eq!(shown.len(), 2);
     for command in shown {
         let output = command.rsplit(' ').next().unwrap();
         let words = command.split(' ').map(|word| match word {
-            "target/staticlib/libdilbreth.a" => archive.clone(),
+            "crates/dilbreth/out/libdilbreth.a" => archive.clone(),
             word if word == output => folder.join(word),
             word => PathBuf::from(word),
         });
@@ -292,7 +293,8 @@ fn under(shell: &str, text: &str) -> Output {
     command.env("OUT", &out).output().unwrap()
 }
 
-// The exit status is 0 where the program ends by itself; a signal that ends it leaves standard error silent.
+// The exit status is 0 where the program ends by itself, also where the reader of its output has gone; a signal that ends
+// it leaves standard error silent.
 #[test]
 fn how_a_program_ends() {
     let text = example("lottery.txt");
@@ -312,7 +314,7 @@ fn how_a_program_ends() {
         // 25 is SIGXFSZ: the file-size limit.
         let found = under(&format!("ulimit -f 0; exec '{path}' >\"$OUT\""), &text);
         assert_eq!((found.status.signal(), found.stderr.len()), (Some(25), 0), "{path}");
-        // 13 is SIGPIPE: the reader has gone before the program is started.
+        // The reader has gone before the program is started.
         let mut gone = Command::new("true").stdin(Stdio::piped()).spawn().unwrap();
         let pipe = gone.stdin.take().unwrap();
         gone.wait().unwrap();
@@ -320,9 +322,12 @@ fn how_a_program_ends() {
         let mut command = program.command();
         command.stdin(Stdio::from(file.open())).stdout(Stdio::from(pipe)).stderr(Stdio::piped());
         let found = command.spawn().unwrap().wait_with_output().unwrap();
-        assert_eq!((found.status.signal(), found.stderr.len()), (Some(13), 0), "{path}");
+        let said = format!("{}: the output could not be written\n", program.name());
+        assert_eq!((found.status.code(), String::from_utf8(found.stderr).unwrap()), (Some(0), said), "{path}");
         // A shell shows a signal as 128 and its number.
-        assert!(GUIDE.contains("a shell shows 141 where") && GUIDE.contains("153 at a file-size limit"));
+        assert!(
+            GUIDE.contains("a shell shows 153 at a file-size limit") && GUIDE.contains("the reader of a pipe has gone")
+        );
     }
 }
 
@@ -376,7 +381,7 @@ fn every_file_that_is_named() {
             let has_kind = file.extension().is_some_and(|kind| {
                 ["antt", "rt", "rs", "md", "sh", "c", "h", "pas", "txt"].iter().any(|known| kind == *known)
             });
-            if !has_kind || !word.contains('/') || word.contains([' ', '*', '\n']) || word.starts_with("target/") {
+            if !has_kind || !word.contains('/') || word.contains([' ', '*', '\n']) {
                 continue;
             }
             // `F`, `NAME` and `N` stand for any name.

@@ -380,12 +380,12 @@ fn no_list_with_more_than_the_amounts_is_booked() {
     }
 }
 
-// A C program of the folder over the archive: DILBRETH_LIB, or target/staticlib of the repository.
+// A C program of the folder over the archive: DILBRETH_LIB, or crates/dilbreth/out of the repository.
 fn c_program(name: &str) -> PathBuf {
     let program = PathBuf::from(env!("CARGO_TARGET_TMPDIR")).join(name);
     let lib = match std::env::var_os("DILBRETH_LIB") {
         Some(given) => PathBuf::from(given),
-        None => folder().join("../target/staticlib"),
+        None => folder().join("../crates/dilbreth/out"),
     };
     let built = Command::new("gcc")
         .args(["-std=c99", "-Wall", "-Wextra", "-Werror", "-pedantic", "-O1", "-I"])

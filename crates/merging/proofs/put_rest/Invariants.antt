@@ -1,11 +1,7 @@
--- `put_rest` meets its contract. The invariant: the positions passed are written. The measure is what is left of the list.
+-- The invariant: the positions passed are written. The measure is what is left of the list.
 use Prim.Native.Nat.{◌-◌, ◌≤◌}
-use mathlib.Core.Path.{◌≡◌, refl, sym, ap, ◌∙◌}
-use native.Mathlib.Omega.{arith}
-use lib.ListN.{length, drop, length-drop}
-use lib.Seq.{sets, take_all, get_or-drop}
-use borrow.Author.Rules.{rules}
-use Rattle.merging.proofs.WalkLaws.{Written, written-length, written_next}
+use lib.ListN.{drop}
+use Rattle.merging.proofs.WalkLaws.{Written}
 use Rattle.merging.proofs.put_rest.Given as goal
 
 abbrev pub invariant-loop-i : goal.invariant-loop-i

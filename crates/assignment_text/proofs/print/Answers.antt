@@ -1,0 +1,12 @@
+-- `print` meets its contract: the table that is written is what is printed for the allocation.
+use lib.ListN.{length}
+use Rattle.series.specs.Ascii.{ascii}
+use Rattle.responses.specs.Printed.{assigned_lines}
+use Rattle.responses.proofs.ResponseLaws.{allocation_printed}
+use Rattle.assignment_text.proofs.PrintLaws.{table_is}
+use borrow.Author.Rules.{rules}
+use Rattle.assignment_text.proofs.print.Goals as goal
+
+pub returns : goal.returns
+unfolding ascii
+returns c = allocation_printed (assigned_lines c.args.accounts.now c.args.amounts.now) c.args.output.now _ c.answer_written.result _ (rw (table_is c.args.accounts.now c.args.amounts.now (length c.args.output.now) c.requires.0 c.requires.1) at c.write_table-writing.ensures) c.answer_written.ensures
