@@ -9,61 +9,63 @@ ghost use Rattle.std.specs.Prelude.{◌≤◌, max, length};
 use forms::Form;
 use judging::{Judged, judge};
 use series::{Answer, Contracts, DEFAULT_INCREMENT, Method, Refusal, Terms, terms_of};
+use std::io::Read;
 
-fn print(text: &[u8]) {
-    io::write_all(libc::STDOUT_FILENO, text);
+// What cannot be written is missing in the output, and the comparison shows it.
+fn print(rt: &impl Print, text: &[u8]) {
+    let _ = rt.write_all(text);
 }
 
-fn print_number(n: u32) {
-    print(b" ");
-    io::print_decimal(libc::STDOUT_FILENO, n as u64);
+fn print_number(rt: &impl Print, n: u32) {
+    let _ = print!(rt; " {n}");
 }
 
-fn print_refusal(refusal: Refusal) {
-    print(b" refused");
-    print_number(series::number(refusal));
+fn print_refusal(rt: &impl Print, refusal: Refusal) {
+    print(rt, b" refused");
+    print_number(rt, series::number(refusal));
 }
 
 // An allocation: the method's letter, T and the further number.
-fn print_allocation(letter: u8, total: Contracts, further: u32) {
-    print(&[b' ', letter]);
-    print_number(total.0);
-    print_number(further);
+fn print_allocation(rt: &impl Print, letter: u8, total: Contracts, further: u32) {
+    print(rt, &[b' ', letter]);
+    print_number(rt, total.0);
+    print_number(rt, further);
 }
 
-fn print_answer(answer: Answer) {
+fn print_answer(rt: &impl Print, answer: Answer) {
     match answer {
-        Answer::Wheel { total, blocks } => print_allocation(b'W', total, blocks),
-        Answer::ProRata { total, remainder } => print_allocation(b'P', total, remainder.0),
-        Answer::Lottery { total, start } => print_allocation(b'L', total, start.0),
-        Answer::LotteryUndrawn { total } => print_allocation(b'L', total, 0),
-        Answer::RemainderDraw { total, start } => print_allocation(b'R', total, start.0),
-        Answer::RemainderUndrawn { total } => print_allocation(b'R', total, 0),
-        Answer::Refused(refusal) => print_refusal(refusal),
+        Answer::Wheel { total, blocks } => print_allocation(rt, b'W', total, blocks),
+        Answer::ProRata { total, remainder } => print_allocation(rt, b'P', total, remainder.0),
+        Answer::Lottery { total, start } => print_allocation(rt, b'L', total, start.0),
+        Answer::LotteryUndrawn { total } => print_allocation(rt, b'L', total, 0),
+        Answer::RemainderDraw { total, start } => print_allocation(rt, b'R', total, start.0),
+        Answer::RemainderUndrawn { total } => print_allocation(rt, b'R', total, 0),
+        Answer::Refused(refusal) => print_refusal(rt, refusal),
     }
 }
 
-fn print_list(list: &[u32; 8]) {
+fn print_list(rt: &impl Print, list: &[u32; 8]) {
     let mut i = 0;
     while i < 8 {
-        print_number(list[i]);
+        print_number(rt, list[i]);
         i += 1;
     }
 }
 
 // What judging answers.
-fn print_judged(judged: Judged) {
+fn print_judged(rt: &impl Print, judged: Judged) {
     match judged {
         Judged::Accepted(total) => {
-            print(b" T");
-            print_number(total.0);
+            print(rt, b" T");
+            print_number(rt, total.0);
         }
-        Judged::Refused(refusal) => print_refusal(refusal),
+        Judged::Refused(refusal) => print_refusal(rt, refusal),
     }
 }
 
 // Makes a call that is lent the first room elements of the output, and prints all of them.
 fn show_allocated(
+    rt: &impl Print,
     form: Form,
     terms: Terms,
     codes: &[u32],
@@ -76,26 +78,44 @@ fn show_allocated(
     }
     let mut amounts = [7u32; 8];
     let answer = listing::allocate(form, terms, codes, accounts, numbers, &mut amounts[..room]);
-    print_answer(answer);
-    print(b" :");
-    print_list(&amounts);
+    print_answer(rt, answer);
+    print(rt, b" :");
+    print_list(rt, &amounts);
 }
 
 // Judges a list alone.
-fn show_list(form: Form, terms: Terms, codes: &[u32], accounts: &[u32], numbers: &[u32]) {
+fn show_list(
+    rt: &impl Print,
+    form: Form,
+    terms: Terms,
+    codes: &[u32],
+    accounts: &[u32],
+    numbers: &[u32],
+) {
     let method = terms.method;
-    print_judged(listing::judge_list(form, method, codes, accounts, numbers));
+    print_judged(
+        rt,
+        listing::judge_list(form, method, codes, accounts, numbers),
+    );
 }
 
 // Allocates or judges, by the letter of a line.
-fn show(letter: u8, terms: Terms, codes: &[u32], accounts: &[u32], numbers: &[u32], room: u32) {
+fn show(
+    rt: &impl Print,
+    letter: u8,
+    terms: Terms,
+    codes: &[u32],
+    accounts: &[u32],
+    numbers: &[u32],
+    room: u32,
+) {
     let room = room as usize;
     match letter {
-        b'l' => show_list(Form::Shorts, terms, codes, accounts, numbers),
-        b'm' => show_list(Form::LastNumbers, terms, codes, accounts, numbers),
-        b'j' => print_judged(judge(terms, codes, accounts, numbers, room)),
-        b'b' => show_allocated(Form::LastNumbers, terms, codes, accounts, numbers, room),
-        _ => show_allocated(Form::Shorts, terms, codes, accounts, numbers, room),
+        b'l' => show_list(rt, Form::Shorts, terms, codes, accounts, numbers),
+        b'm' => show_list(rt, Form::LastNumbers, terms, codes, accounts, numbers),
+        b'j' => print_judged(rt, judge(terms, codes, accounts, numbers, room)),
+        b'b' => show_allocated(rt, Form::LastNumbers, terms, codes, accounts, numbers, room),
+        _ => show_allocated(rt, Form::Shorts, terms, codes, accounts, numbers, room),
     }
 }
 
@@ -170,7 +190,7 @@ fn list_at(text: &[u8], at: usize, list: &mut [u32]) -> Listed
 }
 
 // Shows what the lists of a line come to: they begin at an index.
-fn show_lists(text: &[u8], at: usize, letter: u8, method: Method) {
+fn show_lists(rt: &impl Print, text: &[u8], at: usize, letter: u8, method: Method) {
     let mut values = [0, 0, 0, DEFAULT_INCREMENT];
     let mut codes = [1u32; 4097];
     let mut accounts = [1u32; 4097];
@@ -189,6 +209,7 @@ fn show_lists(text: &[u8], at: usize, letter: u8, method: Method) {
     let listed = third.length;
     let numbered = fourth.length;
     show(
+        rt,
         letter,
         terms,
         &codes[..coded],
@@ -199,7 +220,7 @@ fn show_lists(text: &[u8], at: usize, letter: u8, method: Method) {
 }
 
 // Shows the line that begins at an index.
-fn show_line(text: &[u8], at: usize) {
+fn show_line(rt: &impl Print, text: &[u8], at: usize) {
     let colon = index_of(text, at, b':');
     if colon >= text.len() {
         return;
@@ -210,18 +231,35 @@ fn show_line(text: &[u8], at: usize) {
     let letter = text[colon + 1];
     let method = method_of(text[colon + 2]);
     let label = colon + 1;
-    print(&text[at..label]);
-    show_lists(text, colon + 3, letter, method);
-    print(b"\n");
+    print(rt, &text[at..label]);
+    show_lists(rt, text, colon + 3, letter, method);
+    print(rt, b"\n");
 }
 
-fn main() {
+// Reads until the buffer is full, the input ends or a read fails, and hands back the number of bytes read.
+fn read_full(input: &mut impl Read, buffer: &mut [u8]) -> usize
+    ensures { result ≤ length buffer.new }
+{
+    let mut n = 0;
+    while n < buffer.len() {
+        let Ok(more) = input.read(&mut buffer[n..]) else {
+            return n;
+        };
+        if more == 0 {
+            return n;
+        }
+        n += more;
+    }
+    n
+}
+
+fn main(rt: HostRuntime) {
     let mut text = [0u8; 16384];
-    let n = io::read_full(libc::STDIN_FILENO, &mut text);
+    let n = read_full(&mut rt.stdin(), &mut text);
     let mut at = 0;
     while at < n {
         if text[at] != b'#' {
-            show_line(&text, at);
+            show_line(&rt, &text, at);
         }
         at = index_of(&text, at, b'\n') + 1;
     }

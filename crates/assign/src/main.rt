@@ -30,16 +30,23 @@ fn respond(text: &[u8], output: &mut [u8]) -> Response
     assignment_text::respond(text, output)
 }
 
-fn main() {
+fn main(rt: HostRuntime) {
     let mut input = console::input_buffer();
     let mut output = output_buffer();
-    match console::read_input(&mut input) {
+    match console::read_input(&mut rt.stdin(), &mut input) {
         Input::Bytes(n) => {
             let response = respond(&input[..n], &mut output);
-            console::tell(&PROGRAM, &NOT_WHOLE, response, &output);
+            console::tell(
+                &mut rt.stdout(),
+                &mut rt.stderr(),
+                &PROGRAM,
+                &NOT_WHOLE,
+                response,
+                &output,
+            );
         }
         Input::Failed => {
-            console::say(&PROGRAM, b"the input could not be read\n");
+            console::say(&mut rt.stderr(), &PROGRAM, b"the input could not be read\n");
         }
     }
 }

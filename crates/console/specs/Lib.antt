@@ -1,2 +1,3 @@
--- What reading the input came to.
+-- What reading came to, and what is said.
 pub mod Inputs
+pub mod Outputs

@@ -1,15 +1,18 @@
 // The standard streams of a program, and what it says to a person. A read or write that a signal interrupts is made again.
-// No contract can speak of a stream: each promises only how many bytes it counts at most. What it leaves open is said above it, with the tests of rust/compare/tests that cover it.
+// A stream is any reader or writer. Which bytes are moved is promised for one that says what it has left to give, or what it holds. The standard streams do not, since no contract can speak of what the system does: of them each promises only how many bytes it counts at most.
+// What a function leaves open is said above it, with the tests of rust/compare/tests that cover it. Those run the programs, which pass the standard streams.
 #![tactic(auto)]
 
-ghost use Rattle.std.specs.Prelude.{length, ◌≡◌, ◌≤◌};
-ghost use Rattle.console.specs.Inputs.{Within};
+ghost use Rattle.std.specs.Prelude.{length, take, ◌≡◌, ◌≤◌};
+ghost use Rattle.console.specs.Inputs.{Within, ReadsSome, ReadsAll};
+ghost use Rattle.console.specs.Outputs.{Says, SilentIfWhole};
+ghost use Rattle.std.specs.Io.KnownBytes.{Appends, Keeps};
 ghost use Rattle.responses.specs.Responses.{response_of};
 ghost use Rattle.explanation.specs.Explanation.{LONGEST as longest};
 
-use libc::{EINTR, STDERR_FILENO, STDIN_FILENO, STDOUT_FILENO};
 use responses::Response;
 use series::Refusal;
+use std::io::{ErrorKind, Read, Write};
 
 // What reading came to: a number of bytes, or a failure, which is never taken for the end of the input.
 #[derive(Clone, Copy)]
@@ -22,32 +25,33 @@ pub enum Input {
 const INTERRUPTIONS: u32 = 1000000;
 
 // Reads once; no bytes are the end of the input.
-// Left open: that standard input is read, that the bytes stand in the buffer, and which error is a failure. Tests: `interrupted_and_short`, `interrupted_without_end` and `a_read_that_fails` of streams.rs.
-fn read_some(buffer: &mut [u8]) -> Input
-    ensures { Within result (length buffer.old) }
+// Left open: which error is a failure, and of standard input that its bytes stand in the buffer. Tests: `interrupted_and_short`, `interrupted_without_end` and `a_read_that_fails` of streams.rs.
+fn read_some<R: Read>(input: &mut R, buffer: &mut [u8]) -> Input
+    ensures within { Within result (length buffer.old) }
+    ensures bytes { ReadsSome result buffer.new (R.remaining input.old) (R.remaining input.new) }
 {
-    let mut left = INTERRUPTIONS;
-    while 0 < left {
-        let got = libc::read(STDIN_FILENO, buffer);
-        if 0 <= got {
-            return Input::Bytes(io::count(got, buffer));
+    for _ in 0..INTERRUPTIONS {
+        match input.read(buffer) {
+            Ok(n) => return Input::Bytes(n),
+            Err(error) => {
+                if error.kind() != ErrorKind::Interrupted {
+                    return Input::Failed;
+                }
+            }
         }
-        if os::errno() != EINTR {
-            return Input::Failed;
-        }
-        left -= 1;
     }
     Input::Failed
 }
 
 // Reads until the input ends or the buffer is full.
-// Left open: that no byte of the input is left out before either, and that each stands in its place. Tests: `interrupted_and_short` of streams.rs, `a_few_bytes_at_a_time` and `empty_and_too_long` of program.rs; a failure after some bytes, `a_read_that_fails_midway` of program.rs.
-pub fn read_input(buffer: &mut [u8]) -> Input
-    ensures { Within result (length buffer.old) }
+// Left open: of standard input that no byte is left out before either, and that each stands in its place. Tests: `interrupted_and_short` of streams.rs, `a_few_bytes_at_a_time` and `empty_and_too_long` of program.rs; a failure after some bytes, `a_read_that_fails_midway` of program.rs.
+pub fn read_input<R: Read>(input: &mut R, buffer: &mut [u8]) -> Input
+    ensures within { Within result (length buffer.old) }
+    ensures bytes { ReadsAll result buffer.new (R.remaining input.old) (R.remaining input.new) }
 {
     let mut n = 0;
     while n < buffer.len() {
-        let Input::Bytes(more) = read_some(&mut buffer[n..]) else {
+        let Input::Bytes(more) = read_some(input, &mut buffer[n..]) else {
             return Input::Failed;
         };
         if more == 0 {
@@ -59,32 +63,33 @@ pub fn read_input(buffer: &mut [u8]) -> Input
 }
 
 // Writes once, and hands back the number of bytes written, 0 where that failed.
-// Left open: that the bytes go to the stream of the descriptor, and that as many were written as are counted. Tests: `interrupted_and_short`, `interrupted_without_end` and `a_write_that_fails` of streams.rs.
-fn write_some(descriptor: i32, bytes: &[u8]) -> usize
-    ensures { result ≤ length bytes.now }
+// Left open: which error is a failure, and of a standard stream that as many bytes were written as are counted. Tests: `interrupted_and_short`, `interrupted_without_end` and `a_write_that_fails` of streams.rs.
+fn write_some<W: Write>(stream: &mut W, bytes: &[u8]) -> usize
+    ensures within { result ≤ length bytes.now }
+    ensures bytes { Appends (W.contents stream.old) (W.contents stream.new) (take result bytes.now) }
 {
-    let mut left = INTERRUPTIONS;
-    while 0 < left {
-        let put = libc::write(descriptor, bytes);
-        if 0 <= put {
-            return io::count(put, bytes);
+    for _ in 0..INTERRUPTIONS {
+        match stream.write(bytes) {
+            Ok(n) => return n,
+            Err(error) => {
+                if error.kind() != ErrorKind::Interrupted {
+                    return 0;
+                }
+            }
         }
-        if os::errno() != EINTR {
-            return 0;
-        }
-        left -= 1;
     }
     0
 }
 
 // Writes until all is written or a write fails, and hands back the number of bytes written.
-// Left open: that all is written where no write fails, each byte once and in order. Tests: `interrupted_and_short` and, for standard error, `an_interrupted_explanation` of streams.rs.
-fn write_whole(descriptor: i32, bytes: &[u8]) -> usize
-    ensures { result ≤ length bytes.now }
+// Left open: that all is written where no write fails, and of a standard stream that each byte is written once and in order. Tests: `interrupted_and_short` and, for standard error, `an_interrupted_explanation` of streams.rs.
+fn write_whole<W: Write>(stream: &mut W, bytes: &[u8]) -> usize
+    ensures within { result ≤ length bytes.now }
+    ensures bytes { Appends (W.contents stream.old) (W.contents stream.new) (take result bytes.now) }
 {
     let mut n = 0;
     while n < bytes.len() {
-        let more = write_some(descriptor, &bytes[n..]);
+        let more = write_some(stream, &bytes[n..]);
         if more == 0 {
             return n;
         }
@@ -93,36 +98,45 @@ fn write_whole(descriptor: i32, bytes: &[u8]) -> usize
     n
 }
 
-// Says words to a person on standard error, after the program's name. How many bytes of them are written the system decides.
-// Left open: that they go to standard error, and what stands before them. Tests: `a_read_that_fails` and `a_write_that_fails` of streams.rs, which compare both streams.
-pub fn say(program: &[u8], words: &[u8]) -> usize
-    ensures { result ≤ length words.now }
+// Says words to a person on the stream of errors, after the program's name. How many bytes of them are written the system decides.
+// Left open: of standard error, what stands before them. Tests: `a_read_that_fails` and `a_write_that_fails` of streams.rs, which compare both streams.
+pub fn say<W: Write>(errors: &mut W, program: &[u8], words: &[u8]) -> usize
+    ensures within { result ≤ length words.now }
+    ensures bytes { Says program.now words.now result (W.contents errors.old) (W.contents errors.new) }
 {
-    write_whole(STDERR_FILENO, program);
-    write_whole(STDERR_FILENO, b": ");
-    write_whole(STDERR_FILENO, words)
+    write_whole(errors, program);
+    write_whole(errors, b": ");
+    write_whole(errors, words)
 }
 
-// Writes to standard output, and where not all is written says so. How many bytes are written the system decides.
-// Left open: that they go to standard output, and which of the two lines is said where not all, or nothing, is written. Tests: `a_write_that_fails` and `ranges_that_cannot_be_written` of streams.rs.
-fn print(program: &[u8], unwhole: &[u8], bytes: &[u8]) -> usize
-    ensures { result ≤ length bytes.now }
+// Writes to the first stream, and where not all is written says so on the stream of errors. How many bytes are written the system decides.
+// Left open: which of the two lines is said where not all, or nothing, is written. Tests: `a_write_that_fails` and `ranges_that_cannot_be_written` of streams.rs.
+fn print<P: Write, E: Write>(
+    printed: &mut P,
+    errors: &mut E,
+    program: &[u8],
+    unwhole: &[u8],
+    bytes: &[u8],
+) -> usize
+    ensures within { result ≤ length bytes.now }
+    ensures bytes { Appends (P.contents printed.old) (P.contents printed.new) (take result bytes.now) }
+    ensures silent { result ≡ length bytes.now → Keeps (E.contents errors.old) (E.contents errors.new) }
 {
-    let written = write_whole(STDOUT_FILENO, bytes);
+    let written = write_whole(printed, bytes);
     if written == bytes.len() {
         return written;
     }
     if written == 0 {
-        say(program, b"the output could not be written\n");
+        say(errors, program, b"the output could not be written\n");
     } else {
-        say(program, unwhole);
+        say(errors, program, unwhole);
     }
     written
 }
 
 // Says what the number of a refusal means. How many bytes of its line are written the system decides.
-// Left open: that the number and its words are those of the refusal, and go to standard error. Tests: `an_interrupted_explanation` of streams.rs, `changes_of_any_terms` and `random_texts` of program.rs.
-fn explain(program: &[u8], refusal: Refusal) -> usize
+// Left open: that the number and its words are those of the refusal. Tests: `an_interrupted_explanation` of streams.rs, `changes_of_any_terms` and `random_texts` of program.rs.
+fn explain<W: Write>(errors: &mut W, program: &[u8], refusal: Refusal) -> usize
     ensures { result ≤ longest }
 {
     let number = series::number(refusal);
@@ -130,34 +144,52 @@ fn explain(program: &[u8], refusal: Refusal) -> usize
     let k = io::decimal(number as u64, &mut digits);
     let mut words = [0u8; explanation::LONGEST];
     let n = explanation::explain(number, &mut words);
-    say(program, b"refused, ");
-    write_whole(STDERR_FILENO, &digits[..k]);
-    write_whole(STDERR_FILENO, b": ");
-    write_whole(STDERR_FILENO, &words[..n])
+    say(errors, program, b"refused, ");
+    write_whole(errors, &digits[..k]);
+    write_whole(errors, b": ");
+    write_whole(errors, &words[..n])
 }
 
 // Writes the first n bytes of an output, or all of a shorter one.
-// Left open: that it is those bytes that are written. Tests: `case_m_in_full` and `the_exhibit_in_full` of program.rs.
-fn print_first(program: &[u8], unwhole: &[u8], output: &[u8], n: usize) -> usize
-    ensures { result ≤ n }
+// Left open: of standard output that it is those bytes that are written. Tests: `case_m_in_full` and `the_exhibit_in_full` of program.rs.
+fn print_first<P: Write, E: Write>(
+    printed: &mut P,
+    errors: &mut E,
+    program: &[u8],
+    unwhole: &[u8],
+    output: &[u8],
+    n: usize,
+) -> usize
+    ensures within { result ≤ n }
+    ensures bytes { Appends (P.contents printed.old) (P.contents printed.new) (take result output.now) }
+    ensures silent { n ≤ length output.now → result ≡ n → Keeps (E.contents errors.old) (E.contents errors.new) }
 {
     if output.len() < n {
-        return print(program, unwhole, output);
+        return print(printed, errors, program, unwhole, output);
     }
-    print(program, unwhole, &output[..n])
+    print(printed, errors, program, unwhole, &output[..n])
 }
 
 // Writes what a call printed to an output, and says what a refusal means once its lines are written. How many bytes are written the system decides.
-// Left open: that the output's bytes go to standard output, and that a refusal, and nothing else, is said on standard error, after its lines. Tests: `changes_of_any_terms` and `random_texts` of program.rs; that no refusal is said whose lines are not whole, `a_write_that_fails` of streams.rs.
-pub fn tell(program: &[u8], unwhole: &[u8], response: Response, output: &[u8]) -> usize
-    ensures { result ≤ (response_of response).written }
+// Left open: of the standard streams that the output's bytes go to the first, and nothing else to the second; and that a refusal is said, after its lines. Tests: `changes_of_any_terms` and `random_texts` of program.rs; that no refusal is said whose lines are not whole, `a_write_that_fails` of streams.rs.
+pub fn tell<P: Write, E: Write>(
+    printed: &mut P,
+    errors: &mut E,
+    program: &[u8],
+    unwhole: &[u8],
+    response: Response,
+    output: &[u8],
+) -> usize
+    ensures within { result ≤ (response_of response).written }
+    ensures bytes { Appends (P.contents printed.old) (P.contents printed.new) (take result output.now) }
+    ensures silent { SilentIfWhole response result output.now (E.contents errors.old) (E.contents errors.new) }
 {
     match response {
-        Response::Printed(n) => print_first(program, unwhole, output, n),
+        Response::Printed(n) => print_first(printed, errors, program, unwhole, output, n),
         Response::Refused(n, refusal) => {
-            let written = print_first(program, unwhole, output, n);
+            let written = print_first(printed, errors, program, unwhole, output, n);
             if written == n {
-                explain(program, refusal);
+                explain(errors, program, refusal);
             }
             written
         }

@@ -4,100 +4,108 @@
 ghost use Rattle.std.specs.Prelude.{◌≤◌, max, length};
 
 use forms::Form;
-use libc::{STDIN_FILENO, STDOUT_FILENO};
 use series::{Contracts, DEFAULT_INCREMENT, Method, Refusal, Terms, terms_of};
 use series_text::Reading;
+use std::io::Read;
 use text_writing::Writing;
 
-fn print(bytes: &[u8]) {
-    io::write_all(STDOUT_FILENO, bytes);
+// What cannot be written is missing in the output, and the comparison shows it.
+fn print(rt: &impl Print, bytes: &[u8]) {
+    let _ = rt.write_all(bytes);
 }
 
-fn print_number(n: u64) {
-    io::print_decimal(STDOUT_FILENO, n);
-    print(b" ");
+fn print_number(rt: &impl Print, n: u64) {
+    let _ = print!(rt; "{n} ");
 }
 
 // A list and the end of the line.
-fn print_list(list: &[u32]) {
+fn print_list(rt: &impl Print, list: &[u32]) {
     let mut i = 0;
     while i < list.len() {
-        print_number(list[i] as u64);
+        print_number(rt, list[i] as u64);
         i += 1;
     }
-    print(b"\n");
+    print(rt, b"\n");
 }
 
-fn print_method(method: Method) {
+fn print_method(rt: &impl Print, method: Method) {
     match method {
-        Method::Wheel => print(b"wheel "),
-        Method::ProRata => print(b"pro rata "),
-        Method::Lottery => print(b"starting number "),
-        Method::RemainderDraw => print(b"remainder draw "),
+        Method::Wheel => print(rt, b"wheel "),
+        Method::ProRata => print(rt, b"pro rata "),
+        Method::Lottery => print(rt, b"starting number "),
+        Method::RemainderDraw => print(rt, b"remainder draw "),
     }
 }
 
 // The form, where it is that of last numbers.
-fn print_form(form: Form) {
+fn print_form(rt: &impl Print, form: Form) {
     match form {
         Form::Shorts => {}
-        Form::LastNumbers => print(b"last numbers "),
+        Form::LastNumbers => print(rt, b"last numbers "),
     }
 }
 
 // The increment, where it is another than is meant where none is given.
-fn print_increment(increment: Contracts) {
+fn print_increment(rt: &impl Print, increment: Contracts) {
     if increment.0 != DEFAULT_INCREMENT {
-        print(b"by ");
-        print_number(increment.0 as u64);
+        print(rt, b"by ");
+        print_number(rt, increment.0 as u64);
     }
 }
 
-fn print_terms(terms: Terms) {
+fn print_terms(rt: &impl Print, terms: Terms) {
     let method = terms.method;
     let exercised = terms.exercised;
-    print_method(method);
-    print_number(exercised.0 as u64);
-    print_number(terms.draw as u64);
-    print_increment(terms.increment);
+    print_method(rt, method);
+    print_number(rt, exercised.0 as u64);
+    print_number(rt, terms.draw as u64);
+    print_increment(rt, terms.increment);
 }
 
-fn print_refusal(refusal: Refusal) {
-    print(b"refused ");
-    print_number(series::number(refusal) as u64);
-    print(b"\n");
+fn print_refusal(rt: &impl Print, refusal: Refusal) {
+    print(rt, b"refused ");
+    print_number(rt, series::number(refusal) as u64);
+    print(rt, b"\n");
 }
 
 // What a call that writes answered, and its whole output.
-fn print_writing(writing: Writing, output: &[u8]) {
+fn print_writing(rt: &impl Print, writing: Writing, output: &[u8]) {
     match writing {
         Writing::Written(n) => {
-            print(b"written ");
-            print_number(n as u64);
-            print(b"\n");
+            print(rt, b"written ");
+            print_number(rt, n as u64);
+            print(rt, b"\n");
         }
-        Writing::Refused(refusal) => print_refusal(refusal),
+        Writing::Refused(refusal) => print_refusal(rt, refusal),
     }
-    print(output);
-    print(b"\n");
+    print(rt, output);
+    print(rt, b"\n");
 }
 
 // Writes a series to an output of 96 bytes.
-fn rewrite(form: Form, terms: Terms, codes: &[u32], accounts: &[u32], numbers: &[u32]) {
+fn rewrite(
+    rt: &impl Print,
+    form: Form,
+    terms: Terms,
+    codes: &[u32],
+    accounts: &[u32],
+    numbers: &[u32],
+) {
     let mut output = [b'.'; 96];
     let writing = text_writing::write(form, terms, codes, accounts, numbers, &mut output);
-    print_writing(writing, &output);
+    print_writing(rt, writing, &output);
 }
 
 // Changes a text to an output of 80 bytes.
-fn change(text: &[u8]) {
+fn change(rt: &impl Print, text: &[u8]) {
     let mut output = [b'.'; 80];
     let writing = form_change::change(text, &mut output);
-    print_writing(writing, &output);
+    print_writing(rt, writing, &output);
 }
 
 // Rewrites the first n positions of three lists.
 fn rewrite_first(
+    rt: &impl Print,
     form: Form,
     terms: Terms,
     codes: &[u32],
@@ -114,35 +122,35 @@ fn rewrite_first(
     if n > numbers.len() {
         return;
     }
-    rewrite(form, terms, &codes[..n], &accounts[..n], &numbers[..n]);
+    rewrite(rt, form, terms, &codes[..n], &accounts[..n], &numbers[..n]);
 }
 
 // Reads a text into lists of 6, prints what they hold, and rewrites the series.
-fn reread(text: &[u8]) {
+fn reread(rt: &impl Print, text: &[u8]) {
     let mut codes = [7u32; 6];
     let mut accounts = [7u32; 6];
     let mut numbers = [7u32; 6];
     match series_text::read(text, &mut codes, &mut accounts, &mut numbers) {
         Reading::Refused(refusal) => {
-            print_refusal(refusal);
-            print_list(&codes);
-            print_list(&accounts);
-            print_list(&numbers);
+            print_refusal(rt, refusal);
+            print_list(rt, &codes);
+            print_list(rt, &accounts);
+            print_list(rt, &numbers);
         }
         Reading::Series {
             form,
             terms,
             positions,
         } => {
-            print(b"read ");
-            print_form(form);
-            print_terms(terms);
-            print_number(positions as u64);
-            print(b"\n");
-            print_list(&codes);
-            print_list(&accounts);
-            print_list(&numbers);
-            rewrite_first(form, terms, &codes, &accounts, &numbers, positions);
+            print(rt, b"read ");
+            print_form(rt, form);
+            print_terms(rt, terms);
+            print_number(rt, positions as u64);
+            print(rt, b"\n");
+            print_list(rt, &codes);
+            print_list(rt, &accounts);
+            print_list(rt, &numbers);
+            rewrite_first(rt, form, terms, &codes, &accounts, &numbers, positions);
         }
     }
 }
@@ -162,25 +170,42 @@ fn index_of(text: &[u8], at: usize, byte: u8) -> usize
 }
 
 // Reads a text, or changes one that stands after a `!`.
-fn show(text: &[u8]) {
+fn show(rt: &impl Print, text: &[u8]) {
     if text.len() == 0 {
-        return reread(text);
+        return reread(rt, text);
     }
     if text[0] == b'!' {
-        return change(&text[1..]);
+        return change(rt, &text[1..]);
     }
-    reread(text);
+    reread(rt, text);
+}
+
+// Reads until the buffer is full, the input ends or a read fails, and hands back the number of bytes read.
+fn read_full(input: &mut impl Read, buffer: &mut [u8]) -> usize
+    ensures { result ≤ length buffer.new }
+{
+    let mut n = 0;
+    while n < buffer.len() {
+        let Ok(more) = input.read(&mut buffer[n..]) else {
+            return n;
+        };
+        if more == 0 {
+            return n;
+        }
+        n += more;
+    }
+    n
 }
 
 // The texts of the file stdin, each ended by a bar and byte 10; one that begins with `#` says what the next ones are.
-fn texts() {
+fn texts(rt: &impl Print, stdin: &mut impl Read) {
     let mut input = [0u8; 8192];
-    let n = io::read_full(STDIN_FILENO, &mut input);
+    let n = read_full(stdin, &mut input);
     let mut at = 0;
     while at < n {
         let end = index_of(&input, at, b'|');
         if input[at] != b'#' {
-            show(&input[at..end]);
+            show(rt, &input[at..end]);
         }
         at = end + 2;
     }
@@ -208,21 +233,21 @@ fn fill(text: &mut [u8], head: &[u8]) {
 }
 
 // Reads the first n bytes of a text.
-fn reread_first(text: &[u8], n: usize) {
+fn reread_first(rt: &impl Print, text: &[u8], n: usize) {
     if n <= text.len() {
-        reread(&text[..n]);
+        reread(rt, &text[..n]);
     }
 }
 
 // Texts at the limits: 1,024 and 1,025 lines, the last one cut short, and 32,768 and 32,769 bytes.
-fn limits() {
+fn limits(rt: &impl Print) {
     let mut text = [0u8; 32769];
     fill(&mut text, b"method,exercised,draw\nW,1,1\naccount,short\n");
-    reread_first(&text, 4138);
-    reread_first(&text, 4142);
-    reread_first(&text, 4139);
-    reread_first(&text, 32768);
-    reread_first(&text, 32769);
+    reread_first(rt, &text, 4138);
+    reread_first(rt, &text, 4142);
+    reread_first(rt, &text, 4139);
+    reread_first(rt, &text, 32768);
+    reread_first(rt, &text, 32769);
 }
 
 fn terms(method: Method, exercised: u32, draw: u32) -> Terms {
@@ -235,12 +260,13 @@ fn terms(method: Method, exercised: u32, draw: u32) -> Terms {
 }
 
 // What writing refuses: 1 for each list, and 4.
-fn writings() {
+fn writings(rt: &impl Print) {
     let values = terms(Method::Lottery, 13, 4855);
-    rewrite(Form::Shorts, values, &[1, 2, 3], &[1, 2, 3], &[5, 8]);
-    rewrite(Form::Shorts, values, &[1, 2], &[1, 2, 3], &[5, 8, 2]);
-    rewrite(Form::Shorts, values, &[1, 2], &[1], &[5, 8]);
+    rewrite(rt, Form::Shorts, values, &[1, 2, 3], &[1, 2, 3], &[5, 8]);
+    rewrite(rt, Form::Shorts, values, &[1, 2], &[1, 2, 3], &[5, 8, 2]);
+    rewrite(rt, Form::Shorts, values, &[1, 2], &[1], &[5, 8]);
     rewrite(
+        rt,
         Form::LastNumbers,
         terms(Method::ProRata, 4294967295, 4294967295),
         &[4294967295, 4294967295],
@@ -250,18 +276,18 @@ fn writings() {
 }
 
 // Long lists: 15 before 11, 11 before 4 with the codes, and 4 without them.
-fn long_writings() {
+fn long_writings(rt: &impl Print) {
     let few = terms(Method::Wheel, 1, 1);
     let codes = [1000000000u32; 1025];
     let large = [4294967295u32; 1025];
-    rewrite(Form::Shorts, few, &codes, &large, &large);
-    rewrite_first(Form::Shorts, few, &codes, &large, &large, 1024);
-    rewrite_first(Form::LastNumbers, few, &large, &large, &large, 1024);
+    rewrite(rt, Form::Shorts, few, &codes, &large, &large);
+    rewrite_first(rt, Form::Shorts, few, &codes, &large, &large, 1024);
+    rewrite_first(rt, Form::LastNumbers, few, &large, &large, &large, 1024);
 }
 
-fn main() {
-    texts();
-    limits();
-    writings();
-    long_writings();
+fn main(rt: HostRuntime) {
+    texts(&rt, &mut rt.stdin());
+    limits(&rt);
+    writings(&rt);
+    long_writings(&rt);
 }

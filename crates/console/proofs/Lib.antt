@@ -1,0 +1,2 @@
+-- Laws of known bytes.
+mod StreamLaws
