@@ -4,12 +4,12 @@
 usage: tools/answers.py CRATE [FUNCTION..]   in the repository; the crates below CRATE are proved
 
 It runs `rt check --generated FOLDER --old-names` in the crate, writes both files beside each Proof.antt, and moves that one to
-proofs-before/ outside the repository (/tmp/proofs-before/CRATE). Places that it cannot turn are marked `TODO`. Answers by
+build/proofs-before/CRATE. Places that it cannot turn are marked `TODO`. Answers by
 `search rules` or `omega arith` alone are left out: the check tries these itself.
 """
 import json, os, re, shutil, subprocess, sys
 
-KEEP = "/tmp/proofs-before"
+KEEP = "build/proofs-before"
 IDENT = r"[^\s(){}\[\];,.:\"|@`⌜⌝]+"
 
 

@@ -1,5 +1,4 @@
 -- `allocate` meets its contract: the call is that of the method.
--- where the method is looked at
 use mathlib.Core.Path.{refl, sym, ap, ◌∙◌}
 use Rattle.series.proofs.IncrementLaws.{call_with_increment}
 use Rattle.starts.specs.Starts.{method_for}

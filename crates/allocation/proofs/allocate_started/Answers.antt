@@ -1,5 +1,4 @@
 -- `allocate_started` meets its contract: a refused call keeps its output, any other is assigned by the draw.
--- the series of the call, with these codes
 use Prim.Native.Nat.{ℕ}
 use mathlib.Core.Path.{◌≡◌, refl, sym, ap, ◌∙◌}
 use mathlib.Core.List.{List}

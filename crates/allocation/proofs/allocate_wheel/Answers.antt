@@ -1,5 +1,4 @@
 -- `allocate_wheel` meets its contract: a refused call keeps its output, any other is assigned by the wheel.
--- the series of the call
 use mathlib.Core.Path.{◌≡◌, refl, sym, ap, ◌∙◌}
 use lib.ListN.{length}
 use lib.Seq.{length-take-le}

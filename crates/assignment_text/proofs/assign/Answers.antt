@@ -1,5 +1,4 @@
 -- `assign` meets its contract: the amounts of an allocation are printed, or its refusal.
--- the series that is called
 use mathlib.Core.Path.{◌≡◌, sym, ap, ◌∙◌}
 use lib.ListN.{length}
 use Rattle.series.specs.Series.{Series}

@@ -1,5 +1,4 @@
 -- `respond` meets its contract: what reading gives is assigned, and a refusal of either is printed.
--- the listing that was read, whose positions stand first in the three lists
 use Prim.Native.Nat.{◌≤◌}
 use mathlib.Core.Path.{◌≡◌, sym, ◌∙◌}
 use native.Mathlib.Omega.{arith}

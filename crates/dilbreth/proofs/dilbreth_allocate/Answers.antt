@@ -1,5 +1,4 @@
 -- `dilbreth_allocate` meets its contract: the letter's method is called, and its answer handed back.
--- the function's entry, from where the call answers
 use mathlib.Core.Path.{◌≡◌, sym, ap, ◌∙◌}
 use Rattle.series.specs.Results.{Result, after, status}
 use Rattle.series.specs.Outputs.{lent}

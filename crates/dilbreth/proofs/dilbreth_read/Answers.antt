@@ -1,5 +1,4 @@
 -- `dilbreth_read` meets its contract: what reading hands back stands behind the arguments.
--- where the text was read, and the start
 use mathlib.Core.Path.{sym, ap, ◌∙◌}
 use Rattle.series_text.specs.Answers.{reading_of}
 use Rattle.dilbreth.proofs.ExportLaws.{read_hands}

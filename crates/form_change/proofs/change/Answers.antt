@@ -1,5 +1,4 @@
 -- `change` meets its contract: what reading gives is changed, and a refusal of either stands.
--- the function's entry, from where the text is read; and that, from where what was read is known
 use Prim.Native.Nat.{◌≤◌}
 use mathlib.Core.Path.{◌≡◌, sym, ◌∙◌}
 use native.Mathlib.Omega.{arith}

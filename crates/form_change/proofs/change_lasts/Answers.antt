@@ -1,5 +1,4 @@
 -- `change_lasts` meets its contract: a refusal of the list stands in its form, and what was judged is written by shorts.
--- the function's entry, from where the shorts are filled in, and from where the list is judged
 use mathlib.Core.Path.{sym, ap, ◌∙◌}
 use lib.ListN.{length}
 use Rattle.series.specs.Refusals.{list_verdict}

@@ -1,5 +1,4 @@
 -- `allocate_job` meets its contract: the letter's method is called on the job's terms, and its answer is recorded.
--- the function's entry, from where the letter is read
 use mathlib.Core.Path.{◌≡◌, sym, ap, ◌∙◌}
 use Rattle.series.specs.Results.{Result, after, status}
 use Rattle.text_words.specs.Parts.{named_means}

@@ -1,5 +1,4 @@
 -- `run_job` meets its contract: the job's call on its parts of the lists and of the output.
--- the function's entry, from where the call answers
 use native.Mathlib.Omega.{arith}
 use Prim.Native.Nat.{◌+◌, ◌-◌}
 use Rattle.jobs.proofs.JobLaws.{on-stretch}

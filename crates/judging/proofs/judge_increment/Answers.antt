@@ -1,5 +1,4 @@
 -- `judge_increment` meets its contract: under W its two rows, under P, L and R none.
--- where the increment is found within its range, or not
 use mathlib.Core.Path.{refl}
 use Rattle.series.specs.Refusals.{first, increment_rows}
 use Rattle.judging.proofs.TableLaws.{increment-outside, increment-on, increment_crowded, increment_taken}

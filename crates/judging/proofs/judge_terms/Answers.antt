@@ -1,5 +1,4 @@
 -- `judge_terms` meets its contract: S, then the increment, then the draw.
--- S is not 0
 use mathlib.Core.Path.{sym, ap, ◌∙◌}
 use Rattle.list_judging.specs.Judged.{judged_of}
 use Rattle.judging.proofs.TableLaws.{refused_nothing, refused-above, increment-refused, increment_passed}

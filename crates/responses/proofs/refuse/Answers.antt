@@ -1,5 +1,4 @@
 -- `refuse` meets its contract: the note that is written is what is printed for the refusal.
--- the note is written
 use mathlib.Core.Path.{refl}
 use lib.ListN.{length}
 use Rattle.series.specs.Answers.{number_of}

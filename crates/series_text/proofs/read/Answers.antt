@@ -1,5 +1,4 @@
 -- `read` meets its contract: the answers of its parts are those of the definition, and the lists are filled last.
--- the call, and lines 1 to 3 on the way to the positions
 use Prim.Native.Nat.{◌≤◌}
 use mathlib.Core.Path.{◌≡◌, refl, sym, ap, subst, ◌∙◌}
 use lib.ListN.{drop}

@@ -1,5 +1,4 @@
 -- `read_head` meets its contract: each line's answer is what the next step of the definition goes on with.
--- what line 1 and line 2 answered
 use mathlib.Core.Path.{sym, ap, subst, ◌∙◌}
 use native.Mathlib.Omega.{arith}
 use Rattle.text_rules.specs.Names.{terms_numbers}

@@ -1,5 +1,4 @@
 -- `read_terms` meets its contract: each exit is one of the definition's.
--- the first field
 use Prim.Native.Nat.{ℕ, ◌+◌, ◌≤◌}
 use mathlib.Core.Path.{◌≡◌, sym, ap, subst, ◌∙◌}
 use native.Mathlib.Omega.{arith}

@@ -1,5 +1,4 @@
 -- `put_head` meets its contract: the three lines are put one after the other, and there is room for them.
--- the columns that are written
 use Prim.Native.Nat.{◌+◌, ◌≤◌}
 use mathlib.Core.Path.{◌≡◌, sym, ap, ◌∙◌}
 use mathlib.Core.List.{[], ◌∷◌}

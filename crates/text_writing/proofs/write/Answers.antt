@@ -1,5 +1,4 @@
 -- `write` meets its contract: the codes are compared with the accounts, lines 1 to 3 are put at the start of a head, and the head and the lines are measured and put.
--- the listing that is written
 use Prim.Native.Nat.{◌≤◌}
 use mathlib.Core.Path.{◌≡◌, sym, ap, ap₂, ◌∙◌}
 use mathlib.Core.Bool.{not}

@@ -1,5 +1,4 @@
 -- `write_table` meets its contract: a table is a head and lines of two columns, measured and put.
--- the columns of the table
 use mathlib.Core.Path.{◌≡◌, refl, sym, ap, ◌∙◌}
 use mathlib.Core.Bool.{false}
 use mathlib.Core.List.{[], ◌∷◌}

@@ -1,5 +1,4 @@
 -- `write_tables` meets its contract: two heads with their lines, measured, and put one after the other.
--- the columns of the first table, and of the second
 use mathlib.Core.Path.{◌≡◌, refl, sym, ap, ◌∙◌}
 use mathlib.Core.Bool.{false}
 use mathlib.Core.List.{[], ◌∷◌}

@@ -1,5 +1,4 @@
 -- `assign_round` meets its contract: a walk over the part that the cursor stands in and, past the end of the list, one over the part from the top.
--- the function's entry, and the walk over the first part
 use borrow.Author.Rules.{rules}
 use Prim.Native.Nat.{◌+◌, ◌-◌}
 use mathlib.Core.Path.{sym}

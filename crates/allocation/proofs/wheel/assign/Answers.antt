@@ -1,5 +1,4 @@
 -- `wheel::assign` meets its contract: every position whole where S equals T, and else the blocks from the starting place.
--- the function's entry, from where the blocks are counted
 use mathlib.Core.Path.{sym, ◌∙◌}
 use native.Mathlib.Omega.{arith}
 use Rattle.series.proofs.WheelLaws.{wheel-whole}

@@ -1,5 +1,4 @@
 -- `round_two` meets its contract: where nothing is left the amounts stand; otherwise the walk by the cut_off serves as the rules do.
--- what the cut_off promises where there is one
 use Prim.Native.Nat.{◌+◌}
 use mathlib.Core.Path.{◌≡◌, sym, ap, ◌∙◌}
 use native.Mathlib.Omega.{arith}

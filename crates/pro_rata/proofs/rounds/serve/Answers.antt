@@ -1,5 +1,4 @@
 -- `serve` meets its contract. The invariant: the tied positions passed are counted, and they and the larger ones are served. The measure is what is left of the list.
--- what position i holds at the end
 use Prim.Native.Nat.{◌+◌}
 use mathlib.Core.Path.{◌≡◌, refl, ap, ap₂, ◌∙◌}
 use native.Mathlib.Omega.{arith}

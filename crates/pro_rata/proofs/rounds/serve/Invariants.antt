@@ -1,5 +1,4 @@
 -- `serve` meets its contract. The invariant: the tied positions passed are counted, and they and the larger ones are served. The measure is what is left of the list.
--- what position i holds at the end
 use Prim.Native.Nat.{ℕ, ◌+◌, ◌-◌, ◌≤◌}
 use mathlib.Core.Path.{◌≡◌}
 use mathlib.Core.List.{List}
@@ -11,6 +10,7 @@ use Rattle.pro_rata.specs.declared.rounds.RoundTwo.{RoundTwo}
 use Rattle.series.proofs.ListLaws.{filled}
 use Rattle.pro_rata.proofs.rounds.serve.Given as goal
 
+-- what position i holds at the end
 abbrev pub given : RoundTwo → List ℕ → List ℕ → ℕ → ℕ
 given round parts amounts i = at amounts i + by_cut_off (at parts) round.cut round.first round.tied round.served i
 

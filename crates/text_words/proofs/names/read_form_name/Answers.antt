@@ -1,5 +1,4 @@
 -- `names::read_form_name` meets its contract: the word of shorts, else that of last numbers.
--- the word of shorts is not there
 use mathlib.Core.Path.{subst}
 use Rattle.series.specs.Ascii.{ascii}
 use Rattle.forms.specs.declared.Form.{Form}

@@ -1,5 +1,4 @@
 -- `names::read_terms_names` meets its contract: line 1 without the increment, else with it.
--- line 1 without the increment is not there
 use mathlib.Core.Path.{subst}
 use Rattle.series.specs.Ascii.{ascii}
 use Rattle.text_rules.specs.Names.{terms_line}

@@ -1,5 +1,4 @@
 -- `names::put_positions_line` meets its contract: its names are put one after the other, and there is room for them.
--- there is room for the three names
 use Prim.Native.Nat.{◌+◌, ◌≤◌}
 use mathlib.Core.List.{◌++◌}
 use native.Mathlib.Omega.{arith}

@@ -1,5 +1,4 @@
 -- `table::put_lines` meets its contract: the head, and then the lines.
--- the room, for the head and for the lines
 use Prim.Native.Nat.{◌+◌, ◌≤◌}
 use lib.ListN.{length, length-append}
 use Rattle.text_rules.specs.Rows.{write_rows, rows_of}
