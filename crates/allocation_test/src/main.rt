@@ -6,10 +6,10 @@
 
 ghost use Rattle.std.specs.Prelude.{◌≤◌, max, length};
 
+use console::Input;
 use forms::Form;
 use judging::{Judged, judge};
 use series::{Answer, Contracts, DEFAULT_INCREMENT, Method, Refusal, Terms, terms_of};
-use std::io::Read;
 
 // What cannot be written is missing in the output, and the comparison shows it.
 fn print(rt: &impl Print, text: &[u8]) {
@@ -236,26 +236,11 @@ fn show_line(rt: &impl Print, text: &[u8], at: usize) {
     print(rt, b"\n");
 }
 
-// Reads until the buffer is full, the input ends or a read fails, and hands back the number of bytes read.
-fn read_full(input: &mut impl Read, buffer: &mut [u8]) -> usize
-    ensures { result ≤ length buffer.new }
-{
-    let mut n = 0;
-    while n < buffer.len() {
-        let Ok(more) = input.read(&mut buffer[n..]) else {
-            return n;
-        };
-        if more == 0 {
-            return n;
-        }
-        n += more;
-    }
-    n
-}
-
 fn main(rt: HostRuntime) {
     let mut text = [0u8; 16384];
-    let n = read_full(&mut rt.stdin(), &mut text);
+    let Input::Bytes(n) = console::read_input(&mut rt.stdin(), &mut text) else {
+        return;
+    };
     let mut at = 0;
     while at < n {
         if text[at] != b'#' {

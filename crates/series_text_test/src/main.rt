@@ -3,6 +3,7 @@
 
 ghost use Rattle.std.specs.Prelude.{◌≤◌, max, length};
 
+use console::Input;
 use forms::Form;
 use series::{Contracts, DEFAULT_INCREMENT, Method, Refusal, Terms, terms_of};
 use series_text::Reading;
@@ -180,27 +181,12 @@ fn show(rt: &impl Print, text: &[u8]) {
     reread(rt, text);
 }
 
-// Reads until the buffer is full, the input ends or a read fails, and hands back the number of bytes read.
-fn read_full(input: &mut impl Read, buffer: &mut [u8]) -> usize
-    ensures { result ≤ length buffer.new }
-{
-    let mut n = 0;
-    while n < buffer.len() {
-        let Ok(more) = input.read(&mut buffer[n..]) else {
-            return n;
-        };
-        if more == 0 {
-            return n;
-        }
-        n += more;
-    }
-    n
-}
-
 // The texts of the file stdin, each ended by a bar and byte 10; one that begins with `#` says what the next ones are.
 fn texts(rt: &impl Print, stdin: &mut impl Read) {
     let mut input = [0u8; 8192];
-    let n = read_full(stdin, &mut input);
+    let Input::Bytes(n) = console::read_input(stdin, &mut input) else {
+        return;
+    };
     let mut at = 0;
     while at < n {
         let end = index_of(&input, at, b'|');
