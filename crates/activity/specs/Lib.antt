@@ -1,2 +1,2 @@
--- The enums' values.
+-- What the two calls come to.
 pub mod Answers

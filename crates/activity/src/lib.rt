@@ -9,42 +9,21 @@ ghost use Rattle.activity.specs.Answers.{investor_answer, market_maker_answer};
 pub use activity_rules::{AfterDay, Day, Investor, MarketMaker, Transactions};
 use series::{Contracts, Refusal};
 
-#[derive(Clone, Copy)]
-pub enum InvestorDay {
-    After(AfterDay),
-    Refused(Refusal),
-}
-
-// A market-maker gets the limit only.
-#[derive(Clone, Copy)]
-pub enum MarketMakerDay {
-    Limit(Contracts),
-    Refused(Refusal),
-}
-
 // Whether any of the counts is above 10,000,000.
 fn any_above(counts: &[u32]) -> bool
     ensures { result ≡ any_above counts.now }
 {
-    let mut i = 0;
-    while i < counts.len() {
-        if 10_000_000 < counts[i] {
-            return true;
-        }
-        i += 1;
-    }
-    false
+    counts.iter().any(|&count| 10_000_000 < count)
 }
 
 // What a exceeds b by, or zero.
 fn excess(a: Contracts, b: Contracts) -> Contracts
     ensures { result.0 ≡ a.0 - b.0 }
 {
-    if a.0 < b.0 {
-        return Contracts(0);
-    }
-    Contracts(a.0 - b.0)
+    Contracts(a.0.saturating_sub(b.0))
 }
+
+// What is asked of the counts (`Counted`) is one word over them as they are given, and no type of its own: a second type beside Investor would be no plainer.
 
 // An ordinary day: opening purchases, opening sales and closing purchases come first, then exercises, then closing sales.
 fn ordinary_day(investor: Investor) -> AfterDay
@@ -117,20 +96,20 @@ fn closes_above_short(investor: Investor) -> bool
 }
 
 // An investor's day: 16, then 17, then 18, else what he gets.
-pub fn process_investor(day: Day, investor: Investor) -> InvestorDay
+pub fn process_investor(day: Day, investor: Investor) -> Result<AfterDay, Refusal>
     ensures { investor_answer result ≡ investor_day day investor }
 {
     if investor_above(investor) {
-        return InvestorDay::Refused(Refusal::CountTooLarge);
+        return Err(Refusal::CountTooLarge);
     }
     if closes_above_short(investor) {
-        return InvestorDay::Refused(Refusal::ClosingPurchasesAboveShort);
+        return Err(Refusal::ClosingPurchasesAboveShort);
     }
     let after = after_day(day, investor);
     if after.limit.0 < investor.exercised.0 {
-        return InvestorDay::Refused(Refusal::ExercisedAboveLimit);
+        return Err(Refusal::ExercisedAboveLimit);
     }
-    InvestorDay::After(after)
+    Ok(after)
 }
 
 // What a market-maker gets where he meets no refusal.
@@ -160,11 +139,11 @@ fn market_maker_above(maker: MarketMaker) -> bool
 }
 
 // A market-maker's day: 16, else what he gets.
-pub fn process_market_maker(day: Day, maker: MarketMaker) -> MarketMakerDay
+pub fn process_market_maker(day: Day, maker: MarketMaker) -> Result<Contracts, Refusal>
     ensures { market_maker_answer result ≡ market_maker_day day maker }
 {
     if market_maker_above(maker) {
-        return MarketMakerDay::Refused(Refusal::CountTooLarge);
+        return Err(Refusal::CountTooLarge);
     }
-    MarketMakerDay::Limit(market_maker_limit(day, maker))
+    Ok(market_maker_limit(day, maker))
 }

@@ -1,7 +1,7 @@
 // Days of investors and of market-makers, a line for each: a label, and for an ordinary day and then the final trading day the limit with long and short after the day, or the refusal.
 #![tactic(auto)]
 
-use activity::{Day, Investor, InvestorDay, MarketMaker, MarketMakerDay, Transactions};
+use activity::{Day, Investor, MarketMaker, Transactions};
 use series::{Contracts, Refusal};
 
 // What cannot be written is missing in the output, and the comparison shows it.
@@ -15,24 +15,24 @@ fn print_number(rt: &impl Print, name: &[u8], n: u32) {
 }
 
 fn print_refusal(rt: &impl Print, refusal: Refusal) {
-    print_number(rt, b" refused ", series::number(refusal));
+    print_number(rt, b" refused ", u32::from(refusal));
 }
 
 fn print_investor(rt: &impl Print, day: Day, investor: Investor) {
     match activity::process_investor(day, investor) {
-        InvestorDay::After(after) => {
+        Ok(after) => {
             print_number(rt, b" limit ", after.limit.0);
             print_number(rt, b" long ", after.long.0);
             print_number(rt, b" short ", after.short.0);
         }
-        InvestorDay::Refused(refusal) => print_refusal(rt, refusal),
+        Err(refusal) => print_refusal(rt, refusal),
     }
 }
 
 fn print_market_maker(rt: &impl Print, day: Day, maker: MarketMaker) {
     match activity::process_market_maker(day, maker) {
-        MarketMakerDay::Limit(limit) => print_number(rt, b" limit ", limit.0),
-        MarketMakerDay::Refused(refusal) => print_refusal(rt, refusal),
+        Ok(limit) => print_number(rt, b" limit ", limit.0),
+        Err(refusal) => print_refusal(rt, refusal),
     }
 }
 

@@ -1,9 +1,11 @@
 -- Blocks and skips round the wheel: what holds before each block, and that the last one makes up the rules' amounts.
-use Prim.Native.Nat.{ℕ, suc, ◌+◌, ◌-◌, ◌*◌, ◌/◌, ◌%◌, ◌≤◌, ◌<◌}
+use Prim.Native.Nat.{ℕ, suc, ◌+◌, ◌-◌, ◌*◌, ◌/◌, ◌%◌, ◌≤◌, ◌<◌, min}
 use mathlib.Core.Path.{◌≡◌, refl, sym, ap, ap₂, ◌∙◌}
 use mathlib.Core.List.{List, ◌++◌}
 use native.Mathlib.Omega.{arith}
 use native.Mathlib.Nat.{mod-lt, le-mul_of_pos_right}
+use native.Mathlib.Decide.{dec_le}
+use Rattle.std.proofs.lemmas.Nat.{div-add-mod', div-mul-add}
 use lib.ListN.{length, get_or, replicate, length-replicate, get_or-replicate}
 use borrow.Author.Tests.{eq-eqb, ne_eqb}
 use Rattle.series.specs.Series.{MOST_CONTRACTS}
@@ -11,7 +13,7 @@ use Rattle.series.specs.Places.{total, before, last, steps, run, marked, amounts
 use Rattle.series.specs.Wheel.{ONE, blocks, interval, marks, wheel_marks, wheel, blocks_used}
 use Rattle.series.proofs.PlaceLaws.{marked_append, marked-length}
 use Rattle.series.proofs.WheelLaws.{BlockSum as BlockCount, blocks_are, interval-short, length-wheel_marks, wheel_places, wheel_part}
-use Rattle.judging.specs.Judged.{JudgedSeries}
+use Rattle.judging.specs.declared.judged_list.JudgedList.{JudgedList}
 use Rattle.allocation.specs.declared.places.Cursor.{Cursor}
 use Rattle.allocation.specs.declared.wheel.Wheel.{Wheel}
 use Rattle.allocation.specs.Stretch.{Stands, Assigned, Small, place_of}
@@ -45,14 +47,12 @@ pending_less hs out₀ out new all xs rest p a =
 -- the state at the head of the loop: block is the number of the block that comes next
 pub record AtBlock (hs out₀ out all : List ℕ) (w : Wheel) (block blocks I l : ℕ) : Type 0 where
   pub ready : Ready hs w
-  pub first : 1 ≤ block
-  pub most : block ≤ blocks
   pub pending : Pending hs out₀ out all (marks (total hs) I (millionths w.interval) l (blocks - block) (place_of hs w.cursor) (millionths w.reserve))
 
 pub block_first : (hs out : List ℕ) (w : Wheel) (blocks I l : ℕ) → BlocksFit hs out w blocks I l → AtBlock hs out out (marks_from hs w blocks I l) w 1 blocks I l
 unfolding marks_from
 block_first hs out w blocks I l b =
-    record { ready = b.ready; first = omega arith; most = b.some; pending = pending_all hs out (marks_from hs w blocks I l) }
+    record { ready = b.ready; pending = pending_all hs out (marks_from hs w blocks I l) }
 
 -- the amounts stay small
 pub block_small : (hs out₀ out : List ℕ) (w₀ w : Wheel) (block blocks I l : ℕ) → BlocksFit hs out₀ w₀ blocks I l → AtBlock hs out₀ out (marks_from hs w₀ blocks I l) w block blocks I l → Small hs out MOST_CONTRACTS
@@ -84,8 +84,6 @@ block_next hs out₀ out new all w r c block blocks I l t less s a sk =
         reserve = rw sk.rest (mod-lt (due w) (omega arith));
         list = t.ready.list;
       };
-      first = omega arith;
-      most = omega arith;
       pending = pending_less hs out₀ out new all (run (total hs) I p) (marks (total hs) I (millionths r.interval) l n (place_of hs r.cursor) (millionths r.reserve)) (rw there at here) a;
     }
 
@@ -95,6 +93,22 @@ unfolding marks
 block_last hs out₀ out new all w block blocks I l t end a =
     let none : blocks - block ≡ 0 = omega arith in
     pending_none hs out₀ out new all (run (total hs) l (place_of hs w.cursor)) (rw none at t.pending) a
+
+-- rounded up: the whole part, and 1 where there is a remainder
+pub rounded_up : (S I : ℕ) → 0 < I → S / I + min 1 (S % I) ≡ (S + (I - 1)) / I
+rounded_up S I some =
+    let low : S % I < I = mod-lt S some in
+    let all = div-add-mod' S I in
+    elim (dec_le 1 (S % I)) [
+      | yes m ↦
+          let sum : S + (I - 1) ≡ (S / I + 1) * I + (S % I - 1) = omega (arith, all) in
+          let up : (S + (I - 1)) / I ≡ S / I + 1 = ap (◌/ I) sum ∙ div-mul-add (S / I + 1) I (S % I - 1) (omega arith) in
+          omega (arith, up)
+      | no z ↦
+          let sum : S + (I - 1) ≡ S / I * I + (I - 1) = omega (arith, all) in
+          let whole : (S + (I - 1)) / I ≡ S / I = ap (◌/ I) sum ∙ div-mul-add (S / I) I (I - 1) (omega arith) in
+          omega (arith, whole)
+    ]
 
 pub whole-blocks : (I S n : ℕ) → Increment I → 0 < S → n ≡ blocks I S → (1 ≤ n) × (I * (n - 1) < S)
 whole-blocks I S n inc some e =
@@ -109,42 +123,46 @@ unfolding wheel_marks
 marks_are hs I S p q k r b l eq ek er eb el = rw (eq, er, el, ek, eb)
 
 -- the wheel at its starting place, and all amounts 0
-module _ (hs out cleared : List ℕ) (w : Wheel) (T S p I b l : ℕ) (judged : JudgedSeries hs T S out) (inc : Increment I) (less : S < T) (stands : Stands hs 0 p w.cursor) (ec : cleared ≡ replicate (length out) 0) (eb : b ≡ blocks I S) (el : l ≡ S - I * (b - 1)) (ek : millionths w.interval ≡ interval I T b) (carried : Carried w.interval) (er : millionths w.reserve ≡ 0) where
-  part : S < total hs
-  part = omega (arith, judged.sum)
+module _ (list : JudgedList) where
+  abbrev hs : List ℕ
+  hs = list.shorts.now
 
-  interval_is : millionths w.interval ≡ interval I (total hs) b
-  interval_is = ek ∙ ap (λ t. interval I t b) judged.sum
+  abbrev S : ℕ
+  S = list.exercised.0
 
-  marks-first : marks_from hs w b I l ≡ wheel_marks I (total hs) S p
-  unfolding marks_from steps
-  marks-first = marks_are hs I S p (place_of hs w.cursor) (millionths w.interval) (millionths w.reserve) b l stands.place interval_is er eb el
+  module _ (out cleared : List ℕ) (w : Wheel) (p I b l : ℕ) (room : length out ≡ length hs) (inc : Increment I) (part : S < total hs) (stands : Stands hs 0 p w.cursor) (ec : cleared ≡ replicate (length out) 0) (eb : b ≡ blocks I S) (el : l ≡ S - I * (b - 1)) (ek : millionths w.interval ≡ interval I list.total.0 b) (carried : Carried w.interval) (er : millionths w.reserve ≡ 0) where
+    interval_is : millionths w.interval ≡ interval I (total hs) b
+    interval_is = ek ∙ ap (λ t. interval I t b) list.sum
 
-  count : BlockCount I S (blocks I S - 1)
-  count = blocks_are I S inc.some judged.some
+    marks-first : marks_from hs w b I l ≡ wheel_marks I (total hs) S p
+    unfolding marks_from steps
+    marks-first = marks_are hs I S p (place_of hs w.cursor) (millionths w.interval) (millionths w.reserve) b l stands.place interval_is er eb el
 
-  pub blocks_fit : BlocksFit hs cleared w b I l
-  blocks_fit =
-      record {
-        ready = record {
-          on = stands.on;
-          carried = carried;
-          short = omega (arith, interval_is, interval-short I (total hs) b inc.some (omega (arith, part)) (omega (arith, eb, count.is)));
-          reserve = omega (arith, er);
-          list = omega (arith, judged.sum, judged.small);
-        };
-        lengths = rw ec (length-replicate {A = ℕ} (length out) 0 ∙ judged.room);
-        some = omega (arith, eb, count.is);
-        whole = λ h. block_most I S (blocks I S - 1) (total hs) count.above (omega (arith, eb, count.is)) (omega (arith, part));
-        end = omega (arith, el, part);
-        grown = λ j h.
-            rw (marks-first, ec)
-            (omega (arith, get_or-replicate {A = ℕ} (length out) j 0 0 (omega (arith, judged.room)), marked-length (before hs j) (last hs j) (wheel_marks I (total hs) S p), length-wheel_marks I (total hs) S p inc.some judged.some, judged.most, judged.small));
-      }
+    count : BlockCount I S (blocks I S - 1)
+    count = blocks_are I S inc.some list.some
 
-  pub blocks_give : (new : List ℕ) → Assigned hs cleared new (marks_from hs w b I l) → new ≡ wheel I hs S p
-  blocks_give new a =
-      assigned-amounts hs out new (wheel_marks I (total hs) S p) judged.room (rw (marks-first, ec) at a) ∙ ap (amounts hs) (wheel_places I (total hs) S p) ∙ sym (wheel_part I hs S p part)
+    pub blocks_fit : BlocksFit hs cleared w b I l
+    blocks_fit =
+        record {
+          ready = record {
+            on = stands.on;
+            carried = carried;
+            short = omega (arith, interval_is, interval-short I (total hs) b inc.some (omega (arith, part)) (omega (arith, eb, count.is)));
+            reserve = omega (arith, er);
+            list = omega (arith, list.sum, list.small);
+          };
+          lengths = rw ec (length-replicate {A = ℕ} (length out) 0 ∙ room);
+          some = omega (arith, eb, count.is);
+          whole = λ h. block_most I S (blocks I S - 1) (total hs) count.above (omega (arith, eb, count.is)) (omega (arith, part));
+          end = omega (arith, el, part);
+          grown = λ j h.
+              rw (marks-first, ec)
+              (omega (arith, get_or-replicate {A = ℕ} (length out) j 0 0 (omega (arith, room)), marked-length (before hs j) (last hs j) (wheel_marks I (total hs) S p), length-wheel_marks I (total hs) S p inc.some list.some, list.most, list.small));
+        }
+
+    pub blocks_give : (new : List ℕ) → Assigned hs cleared new (marks_from hs w b I l) → new ≡ wheel I hs S p
+    blocks_give new a =
+        assigned-amounts hs out new (wheel_marks I (total hs) S p) room (rw (marks-first, ec) at a) ∙ ap (amounts hs) (wheel_places I (total hs) S p) ∙ sym (wheel_part I hs S p part)
 
 pub used_whole : (I T S : ℕ) → S ≡ T → 0 ≡ blocks_used I T S
 unfolding blocks_used

@@ -1,20 +1,13 @@
 -- What the functions of places ask and promise: stretches of contracts without a wrap, and cursors on the wheel.
-use Rattle.std.specs.Prelude.{ℕ, suc, ◌+◌, ◌-◌, ◌≤◌, ◌<◌, min, max, ◌≡◌, List, length, get_or}
+use Rattle.std.specs.Prelude.{ℕ, suc, ◌+◌, ◌-◌, ◌≤◌, ◌<◌, min, max, ◌≡◌, List, length, get_or, Ok, Err, Result as Result·}
+use Rattle.series.specs.declared.Contracts.{Contracts}
 use Rattle.series.specs.Series.{MOST_CONTRACTS}
 use Rattle.series.specs.Places.{total, before, last, steps, marked}
-use Rattle.allocation.specs.declared.places.Stop.{Stop}
 use Rattle.allocation.specs.declared.places.Cursor.{Cursor}
 
 -- how many of the contracts b + 1 up to e are among lo + 1 up to hi
 unfoldable pub overlap : ℕ → ℕ → ℕ → ℕ → ℕ
 overlap b e lo hi = min e hi - max b lo
-
--- x contracts from the top of the list end in a position, of which so many are passed, or past the list with so many left
-pub record Ends (hs : List ℕ) (x : ℕ) (s : Stop) : Type 0 where
-  pub on_list : s.at ≤ length hs
-  pub reached : before hs s.at + s.passed.0 + s.left.0 ≡ x
-  pub inside : s.at < length hs → (s.passed.0 < get_or hs s.at 0) × (s.left.0 ≡ 0)
-  pub past : length hs ≤ s.at → s.passed.0 ≡ 0
 
 -- each amount grew by the contracts lo + 1 up to hi that are its position's
 pub record Grown (hs old new : List ℕ) (lo hi : ℕ) : Type 0 where
@@ -27,14 +20,23 @@ pub record Small (hs out : List ℕ) (most : ℕ) : Type 0 where
   pub list : total hs ≤ MOST_CONTRACTS
   pub amounts : (j : ℕ) → j < length hs → get_or out j 0 ≤ most
 
+-- how many contracts stand before a cursor
+abbrev pub contracts_before : List ℕ → Cursor → ℕ
+contracts_before hs c = before hs c.at + c.passed.0
+
 -- the place of a cursor
 unfoldable pub place_of : List ℕ → Cursor → ℕ
-place_of hs c = suc (before hs c.at + c.passed.0)
+place_of hs c = suc (contracts_before hs c)
 
 -- the cursor's position has a contract after the passed ones
 pub record OnList (hs : List ℕ) (c : Cursor) : Type 0 where
   pub position : c.at < length hs
   pub contract : c.passed.0 < get_or hs c.at 0
+
+-- x contracts from the top of the list end at a cursor, or past the list with so many left
+abbrev pub Ends : List ℕ → ℕ → Result· Cursor Contracts → Type 0
+Ends hs x (Ok c) = OnList hs c × (contracts_before hs c ≡ x)
+Ends hs x (Err left) = total hs + left.0 ≡ x
 
 -- each amount grew by the marks ms on its position's contracts
 pub record Assigned (hs old new ms : List ℕ) : Type 0 where

@@ -5,9 +5,10 @@ ghost use Rattle.series.specs.Wheel.{ONE, interval};
 ghost use Rattle.allocation.specs.Millionths.{millionths, Carried, SumFits};
 
 use series::Contracts;
+use std::ops::Add;
 
 // So many whole contracts and, below one contract, so many millionths.
-#[derive(Clone, Copy)]
+#[derive(Clone, Copy, Debug, PartialEq, Eq)]
 pub struct Millionths {
     contracts: u32,
     decimals: u32,
@@ -18,50 +19,23 @@ impl Millionths {
     const ONE: u32 = 1_000_000;
 
     // The reserve at first.
-    pub fn zero() -> Self
-        ensures { millionths result ≡ 0 }
-    {
-        Millionths {
-            contracts: 0,
-            decimals: 0,
-        }
-    }
+    pub const ZERO: Self = Millionths {
+        contracts: 0,
+        decimals: 0,
+    };
 
     // The skip interval: T divided by T1 to six places, an exact half going up, less the increment, and zero where that is below zero.
     pub fn interval(total: Contracts, blocks: u32, increment: Contracts) -> Self
         requires { (total.0 ≤ MOST_CONTRACTS) × (0 < blocks) }
         ensures { (millionths result ≡ interval increment.0 total.0 blocks) × Carried result }
     {
-        let one = Millionths::ONE as u64;
-        let wide = blocks as u64;
-        let mean = (2 * ((total.0 as u64) * one) + wide) / (2 * wide);
-        let block = (increment.0 as u64) * one;
-        if mean < block {
-            return Millionths::zero();
-        }
-        let left = mean - block;
+        let one = u64::from(Millionths::ONE);
+        let wide = u64::from(blocks);
+        let mean = (2 * (u64::from(total.0) * one) + wide) / (2 * wide);
+        let left = mean.saturating_sub(u64::from(increment.0) * one);
         Millionths {
             contracts: (left / one) as u32,
             decimals: (left % one) as u32,
-        }
-    }
-
-    // The sum: decimals that make a contract are carried.
-    pub fn plus(self, other: Self) -> Self
-        requires { SumFits self other }
-        ensures { (millionths result ≡ millionths self + millionths other) × Carried result }
-    {
-        let contracts = self.contracts + other.contracts;
-        let decimals = self.decimals + other.decimals;
-        if decimals < Millionths::ONE {
-            return Millionths {
-                contracts,
-                decimals,
-            };
-        }
-        Millionths {
-            contracts: contracts + 1,
-            decimals: decimals - Millionths::ONE,
         }
     }
 
@@ -81,6 +55,30 @@ impl Millionths {
         Millionths {
             contracts: 0,
             decimals: self.decimals,
+        }
+    }
+}
+
+// The sum: decimals that make a contract are carried.
+impl Add for Millionths {
+    type Output = Self;
+
+    ghost can_add = { SumFits };
+
+    ghost add_gives = { λ a b sum. (millionths sum ≡ millionths a + millionths b) × Carried sum };
+
+    fn add(self, other: Self) -> Self {
+        let contracts = self.contracts + other.contracts;
+        let decimals = self.decimals + other.decimals;
+        if decimals < Millionths::ONE {
+            return Millionths {
+                contracts,
+                decimals,
+            };
+        }
+        Millionths {
+            contracts: contracts + 1,
+            decimals: decimals - Millionths::ONE,
         }
     }
 }

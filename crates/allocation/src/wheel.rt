@@ -1,19 +1,18 @@
 // The wheel (W).
-ghost use Rattle.std.specs.Prelude.{◌≡◌, ◌-◌, ◌*◌, ◌≤◌, ◌<◌};
+ghost use Rattle.std.specs.Prelude.{◌≡◌, ◌-◌, ◌*◌, ◌≤◌, ◌<◌, length};
 ghost use Rattle.series.specs.Series.{MOST_CONTRACTS};
 ghost use Rattle.series.specs.Places.{OnWheel};
 ghost use Rattle.series.specs.Wheel.{wheel, blocks as blocksOf, blocks_used};
-ghost use Rattle.judging.specs.Judged.{JudgedSeries};
 ghost use Rattle.allocation.specs.Stretch.{Assigned};
 ghost use Rattle.allocation.specs.Blocks.{Increment, Ready, Skipped, BlocksFit, marks_from};
 
-use crate::lists::{clear, copy};
 use crate::millionths::Millionths;
-use crate::places::{Cursor, assign_run, seek, skip_run};
+use crate::places::Cursor;
+use judging::JudgedList;
 use series::{Contracts, Place};
 
 // Where the wheel stands, with its skip interval and the reserve.
-#[derive(Clone, Copy)]
+#[derive(Clone, Copy, Debug, PartialEq, Eq)]
 pub struct Wheel {
     pub cursor: Cursor,
     pub interval: Millionths,
@@ -26,11 +25,8 @@ impl Wheel {
         requires { Ready shorts.now self }
         ensures { Skipped shorts.now self result }
     {
-        let interval = self.interval;
-        let reserve = self.reserve;
-        let cursor = self.cursor;
-        let due = interval.plus(reserve);
-        self.cursor = skip_run(shorts, cursor, due.whole());
+        let due = self.interval + self.reserve;
+        self.cursor = self.cursor.skip(shorts, due.whole());
         self.reserve = due.rest();
         self
     }
@@ -40,24 +36,19 @@ impl Wheel {
 fn assign_blocks(
     shorts: &[u32],
     amounts: &mut [u32],
-    start: Wheel,
+    mut wheel: Wheel,
     blocks: u32,
     increment: Contracts,
     last: Contracts,
 )
-    requires { BlocksFit shorts.now amounts.old start blocks increment.0 last.0 }
-    ensures { Assigned shorts.now amounts.old amounts.new (marks_from shorts.now start blocks increment.0 last.0) }
+    requires { BlocksFit shorts.now amounts.old wheel blocks increment.0 last.0 }
+    ensures { Assigned shorts.now amounts.old amounts.new (marks_from shorts.now wheel blocks increment.0 last.0) }
 {
-    let mut wheel = start;
-    let mut block = 1;
-    while block < blocks {
-        let cursor = wheel.cursor;
-        wheel.cursor = assign_run(shorts, amounts, cursor, increment);
+    for _block in 1..blocks {
+        wheel.cursor = wheel.cursor.assign(shorts, amounts, increment);
         wheel = wheel.skip(shorts);
-        block += 1;
     }
-    let cursor = wheel.cursor;
-    assign_run(shorts, amounts, cursor, last);
+    wheel.cursor.assign(shorts, amounts, last);
 }
 
 // The number of blocks T1: S divided by the increment, rounded up.
@@ -66,7 +57,7 @@ fn block_count(exercised: Contracts, increment: Contracts) -> u32
     requires exercised_bound { exercised.0 ≤ MOST_CONTRACTS }
     ensures { result ≡ blocksOf increment.0 exercised.0 }
 {
-    (exercised.0 + (increment.0 - 1)) / increment.0
+    exercised.0.div_ceil(increment.0)
 }
 
 // The contracts of the last block: what the whole blocks before it leave of S.
@@ -80,31 +71,25 @@ fn last_block(exercised: Contracts, increment: Contracts, blocks: u32) -> Contra
 }
 
 // Assigns S contracts from the starting place on; the number of blocks, 0 where S equals T.
-pub fn assign(
-    shorts: &[u32],
-    total: Contracts,
-    exercised: Contracts,
-    draw: u32,
-    increment: Contracts,
-    amounts: &mut [u32],
-) -> u32
-    requires judged_series { JudgedSeries shorts.now total.0 exercised.0 amounts.old }
+pub fn assign(list: &JudgedList, increment: Contracts, draw: u32, amounts: &mut [u32]) -> u32
+    requires room { length amounts.old ≡ length list.now.shorts.now }
     requires increment { Increment increment.0 }
-    requires on_wheel { (exercised.0 ≡ total.0 → ⊥) → OnWheel total.0 draw }
-    ensures value { result ≡ blocks_used increment.0 total.0 exercised.0 }
-    ensures amounts_after { amounts.new ≡ wheel increment.0 shorts.now exercised.0 draw }
+    requires on_wheel { (list.now.exercised.0 ≡ list.now.total.0 → ⊥) → OnWheel list.now.total.0 draw }
+    ensures value { result ≡ blocks_used increment.0 list.now.total.0 list.now.exercised.0 }
+    ensures amounts_after { amounts.new ≡ wheel increment.0 list.now.shorts.now list.now.exercised.0 draw }
 {
-    if exercised.0 == total.0 {
-        copy(shorts, amounts);
+    let shorts = list.shorts;
+    if list.exercised == list.total {
+        lists::copy(shorts, amounts);
         return 0;
     }
-    clear(amounts);
-    let blocks = block_count(exercised, increment);
-    let last = last_block(exercised, increment, blocks);
+    amounts.fill(0);
+    let blocks = block_count(list.exercised, increment);
+    let last = last_block(list.exercised, increment, blocks);
     let first = Wheel {
-        cursor: seek(shorts, Place(draw)),
-        interval: Millionths::interval(total, blocks, increment),
-        reserve: Millionths::zero(),
+        cursor: Cursor::seek(shorts, Place(draw)),
+        interval: Millionths::interval(list.total, blocks, increment),
+        reserve: Millionths::ZERO,
     };
     assign_blocks(shorts, amounts, first, blocks, increment, last);
     blocks

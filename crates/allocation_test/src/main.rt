@@ -4,12 +4,10 @@
 // A space ends each number, and `4097*` stands for so many ones.
 #![tactic(auto)]
 
-ghost use Rattle.std.specs.Prelude.{◌≤◌, max, length};
+ghost use Rattle.std.specs.Prelude.{◌≤◌, length};
 
-use console::Input;
-use forms::Form;
-use judging::{Judged, judge};
-use series::{Answer, Contracts, DEFAULT_INCREMENT, Method, Refusal, Terms, terms_of};
+use forms::{Form, Listing};
+use series::{Allocated, Contracts, DEFAULT_INCREMENT, Method, Place, Refusal, terms_of};
 
 // What cannot be written is missing in the output, and the comparison shows it.
 fn print(rt: &impl Print, text: &[u8]) {
@@ -22,7 +20,7 @@ fn print_number(rt: &impl Print, n: u32) {
 
 fn print_refusal(rt: &impl Print, refusal: Refusal) {
     print(rt, b" refused");
-    print_number(rt, series::number(refusal));
+    print_number(rt, u32::from(refusal));
 }
 
 // An allocation: the method's letter, T and the further number.
@@ -32,90 +30,63 @@ fn print_allocation(rt: &impl Print, letter: u8, total: Contracts, further: u32)
     print_number(rt, further);
 }
 
-fn print_answer(rt: &impl Print, answer: Answer) {
-    match answer {
-        Answer::Wheel { total, blocks } => print_allocation(rt, b'W', total, blocks),
-        Answer::ProRata { total, remainder } => print_allocation(rt, b'P', total, remainder.0),
-        Answer::Lottery { total, start } => print_allocation(rt, b'L', total, start.0),
-        Answer::LotteryUndrawn { total } => print_allocation(rt, b'L', total, 0),
-        Answer::RemainderDraw { total, start } => print_allocation(rt, b'R', total, start.0),
-        Answer::RemainderUndrawn { total } => print_allocation(rt, b'R', total, 0),
-        Answer::Refused(refusal) => print_refusal(rt, refusal),
-    }
+// The number of a starting place, 0 for none.
+fn number_of(start: Option<Place>) -> u32 {
+    start.map_or(0, |place| place.0)
 }
 
-fn print_list(rt: &impl Print, list: &[u32; 8]) {
-    let mut i = 0;
-    while i < 8 {
-        print_number(rt, list[i]);
-        i += 1;
+fn print_answer(rt: &impl Print, answer: Result<Allocated, Refusal>) {
+    match answer {
+        Ok(Allocated::Wheel { total, blocks }) => print_allocation(rt, b'W', total, blocks),
+        Ok(Allocated::ProRata { total, remainder }) => {
+            print_allocation(rt, b'P', total, remainder.0)
+        }
+        Ok(Allocated::Lottery { total, start }) => {
+            print_allocation(rt, b'L', total, number_of(start))
+        }
+        Ok(Allocated::RemainderDraw { total, start }) => {
+            print_allocation(rt, b'R', total, number_of(start))
+        }
+        Err(refusal) => print_refusal(rt, refusal),
     }
 }
 
 // What judging answers.
-fn print_judged(rt: &impl Print, judged: Judged) {
+fn print_judged(rt: &impl Print, judged: Result<Contracts, Refusal>) {
     match judged {
-        Judged::Accepted(total) => {
+        Ok(total) => {
             print(rt, b" T");
             print_number(rt, total.0);
         }
-        Judged::Refused(refusal) => print_refusal(rt, refusal),
+        Err(refusal) => print_refusal(rt, refusal),
     }
 }
 
 // Makes a call that is lent the first room elements of the output, and prints all of them.
-fn show_allocated(
-    rt: &impl Print,
-    form: Form,
-    terms: Terms,
-    codes: &[u32],
-    accounts: &[u32],
-    numbers: &[u32],
-    room: usize,
-) {
-    if room > 8 {
-        return;
-    }
+fn show_allocated(rt: &impl Print, listing: &Listing, room: usize) {
     let mut amounts = [7u32; 8];
-    let answer = listing::allocate(form, terms, codes, accounts, numbers, &mut amounts[..room]);
-    print_answer(rt, answer);
+    let Some(output) = amounts.get_mut(..room) else {
+        return;
+    };
+    print_answer(rt, listing::allocate(listing, output));
     print(rt, b" :");
-    print_list(rt, &amounts);
+    for &amount in &amounts {
+        print_number(rt, amount);
+    }
 }
 
-// Judges a list alone.
-fn show_list(
-    rt: &impl Print,
-    form: Form,
-    terms: Terms,
-    codes: &[u32],
-    accounts: &[u32],
-    numbers: &[u32],
-) {
-    let method = terms.method;
-    print_judged(
-        rt,
-        listing::judge_list(form, method, codes, accounts, numbers),
-    );
-}
-
-// Allocates or judges, by the letter of a line.
-fn show(
-    rt: &impl Print,
-    letter: u8,
-    terms: Terms,
-    codes: &[u32],
-    accounts: &[u32],
-    numbers: &[u32],
-    room: u32,
-) {
-    let room = room as usize;
+// Allocates or judges a list of shorts, by the letter of a line.
+fn show(rt: &impl Print, letter: u8, listing: &Listing, room: usize) {
+    let last_numbers = Listing {
+        form: Form::LastNumbers,
+        ..*listing
+    };
     match letter {
-        b'l' => show_list(rt, Form::Shorts, terms, codes, accounts, numbers),
-        b'm' => show_list(rt, Form::LastNumbers, terms, codes, accounts, numbers),
-        b'j' => print_judged(rt, judge(terms, codes, accounts, numbers, room)),
-        b'b' => show_allocated(rt, Form::LastNumbers, terms, codes, accounts, numbers, room),
-        _ => show_allocated(rt, Form::Shorts, terms, codes, accounts, numbers, room),
+        b'l' => print_judged(rt, listing::judge_list(listing)),
+        b'm' => print_judged(rt, listing::judge_list(&last_numbers)),
+        b'j' => print_judged(rt, judging::judge(&listing.series(listing.numbers), room)),
+        b'b' => show_allocated(rt, &last_numbers, room),
+        _ => show_allocated(rt, listing, room),
     }
 }
 
@@ -128,124 +99,71 @@ fn method_of(letter: u8) -> Method {
     }
 }
 
-// The index of a byte from an index on, or the text's length.
-fn index_of(text: &[u8], at: usize, byte: u8) -> usize
-    ensures { (at ≤ result) × (result ≤ max at (length text.now)) }
+// Reads numbers into a list of ones, and hands back how many there are.
+fn read_list(text: &[u8], list: &mut [u32]) -> usize
+    ensures { result ≤ length list.new }
 {
-    let mut i = at;
-    while i < text.len() {
-        if text[i] == byte {
-            return i;
-        }
-        i += 1;
-    }
-    i
-}
-
-// How many numbers a list has, and the index after it.
-#[derive(Clone, Copy)]
-struct Listed {
-    length: usize,
-    next: usize,
-}
-
-// A number of 32 bits with one more digit.
-fn with_digit(number: usize, digit: u8) -> usize {
-    (number % 4294967296) * 10 + (digit % 16) as usize
-}
-
-// A number modulo 2^32.
-fn narrow(number: usize) -> u32 {
-    (number % 4294967296) as u32
-}
-
-// Reads a list of numbers, up to its semicolon, into a list of ones.
-fn list_at(text: &[u8], at: usize, list: &mut [u32]) -> Listed
-    ensures { result.length ≤ length list.new }
-{
-    let mut length = 0;
-    let mut number = 0;
-    let mut i = at;
-    while i < text.len() {
-        let byte = text[i];
-        i += 1;
-        if byte == b';' {
-            return Listed { length, next: i };
-        }
-        if byte == b' ' {
-            if length < list.len() {
-                list[length] = narrow(number);
-                length += 1;
+    let mut n = 0;
+    let mut number: u32 = 0;
+    for &byte in text {
+        match byte {
+            b' ' => {
+                if n < list.len() {
+                    list[n] = number;
+                    n += 1;
+                }
+                number = 0;
             }
-            number = 0;
-        } else if byte == b'*' {
-            if number <= list.len() {
-                length = number;
-            }
-        } else {
-            number = with_digit(number, byte);
+            b'*' => n = list.len().min(number as usize),
+            _ => number = number.wrapping_mul(10).wrapping_add((byte % 16) as u32),
         }
     }
-    Listed { length, next: i }
+    n
 }
 
-// Shows what the lists of a line come to: they begin at an index.
-fn show_lists(rt: &impl Print, text: &[u8], at: usize, letter: u8, method: Method) {
+// Shows what the lists of a line come to.
+fn show_lists(rt: &impl Print, letter: u8, method: Method, text: &[u8]) {
     let mut values = [0, 0, 0, DEFAULT_INCREMENT];
     let mut codes = [1u32; 4097];
     let mut accounts = [1u32; 4097];
     let mut numbers = [1u32; 4097];
-    let first = list_at(text, at, &mut values);
-    let second = list_at(text, first.next, &mut codes);
-    let third = list_at(text, second.next, &mut accounts);
-    let fourth = list_at(text, third.next, &mut numbers);
-    let terms = terms_of(
-        method,
-        Contracts(values[0]),
-        values[1],
-        Contracts(values[3]),
-    );
-    let coded = second.length;
-    let listed = third.length;
-    let numbered = fourth.length;
-    show(
-        rt,
-        letter,
-        terms,
-        &codes[..coded],
-        &accounts[..listed],
-        &numbers[..numbered],
-        values[2],
-    );
+    let mut lists = text.split(|&byte| byte == b';');
+    read_list(lists.next().unwrap_or(&[]), &mut values);
+    let coded = read_list(lists.next().unwrap_or(&[]), &mut codes);
+    let listed = read_list(lists.next().unwrap_or(&[]), &mut accounts);
+    let numbered = read_list(lists.next().unwrap_or(&[]), &mut numbers);
+    let [exercised, draw, room, increment] = values;
+    let listing = Listing {
+        form: Form::Shorts,
+        terms: terms_of(method, Contracts(exercised), draw, Contracts(increment)),
+        codes: &codes[..coded],
+        accounts: &accounts[..listed],
+        numbers: &numbers[..numbered],
+    };
+    show(rt, letter, &listing, room as usize);
 }
 
-// Shows the line that begins at an index.
-fn show_line(rt: &impl Print, text: &[u8], at: usize) {
-    let colon = index_of(text, at, b':');
-    if colon >= text.len() {
+// Shows a line.
+fn show_line(rt: &impl Print, line: &[u8]) {
+    let Some(colon) = line.iter().position(|&byte| byte == b':') else {
         return;
-    }
-    if text.len() - colon < 4 {
+    };
+    let [letter, method, lists @ ..] = &line[colon + 1..] else {
         return;
-    }
-    let letter = text[colon + 1];
-    let method = method_of(text[colon + 2]);
-    let label = colon + 1;
-    print(rt, &text[at..label]);
-    show_lists(rt, text, colon + 3, letter, method);
+    };
+    print(rt, &line[..colon + 1]);
+    show_lists(rt, *letter, method_of(*method), lists);
     print(rt, b"\n");
 }
 
 fn main(rt: HostRuntime) {
     let mut text = [0u8; 16384];
-    let Input::Bytes(n) = console::read_input(&mut rt.stdin(), &mut text) else {
+    let Ok(n) = console::read_input(&mut rt.stdin(), &mut text) else {
         return;
     };
-    let mut at = 0;
-    while at < n {
-        if text[at] != b'#' {
-            show_line(&rt, &text, at);
+    for line in text[..n].split(|&byte| byte == b'\n') {
+        if !line.starts_with(b"#") {
+            show_line(&rt, line);
         }
-        at = index_of(&text, at, b'\n') + 1;
     }
 }

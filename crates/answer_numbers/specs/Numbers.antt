@@ -1,7 +1,8 @@
 -- The numbers of C: that of a form, and those that an allocation hands back.
-use Rattle.std.specs.Prelude.{ℕ, zero, suc}
-use Rattle.series.specs.Results.{Result, refused, value, ◌>>=◌}
-use Rattle.series.specs.Answers.{Allocation, handed_back}
+use Rattle.std.specs.Prelude.{ℕ, zero, suc, Result as Result·}
+use Rattle.series.specs.Results.{Result, value, ◌>>=◌}
+use Rattle.series.specs.Answers.{Allocation, handed_back, outcome_of}
+use Rattle.series.specs.declared.Refusal.{Refusal}
 use Rattle.forms.specs.declared.Form.{Form}
 use Rattle.answer_numbers.specs.declared.Numbers.{Numbers}
 
@@ -20,13 +21,20 @@ pub record Handing : Type 0 where
   pub total : ℕ
   pub further : ℕ
 
+-- those of an allocation
+abbrev pub handing : Allocation → Handing
+handing a = record { total = a.total; further = handed_back a.further }
+
 -- those of an answer
 unfoldable pub handed_numbers : Result Allocation → Result Handing
 handed_numbers r = do
   a ← r
-  value (record { total = a.total; further = handed_back a.further })
+  value (handing a)
 
--- those of each case of Numbers
-abbrev pub numbers_mean : Numbers → Result Handing
-numbers_mean (Numbers.Allocated T f) = value (record { total = T; further = f })
-numbers_mean (Numbers.Refused n) = refused n
+-- the numbers that the code hands back
+abbrev pub handing_of : Numbers → Handing
+handing_of n = record { total = n.total; further = n.further }
+
+-- those of an answer
+abbrev pub numbers_mean : Result· Numbers Refusal → Result Handing
+numbers_mean r = outcome_of handing_of r

@@ -2,24 +2,25 @@
 #![tactic(auto)]
 
 ghost use Rattle.std.specs.Prelude.{◌≡◌};
-ghost use Rattle.series.specs.Results.{value};
-ghost use Rattle.series.specs.Answers.{answer_of};
-ghost use Rattle.answer_numbers.specs.Numbers.{form_by, form_number, numbers_mean, handed_numbers};
+ghost use Rattle.series.specs.Answers.{allocation_of, answer_of, handed_back, place_of};
+ghost use Rattle.answer_numbers.specs.Numbers.{form_by, form_number, handing, handing_of, handed_numbers, numbers_mean};
 
 use forms::Form;
-use series::{Answer, Contracts};
+use series::{Allocated, Place, Refusal};
 
-// The form of a number: 0 is shorts, any other number last numbers.
+// The form of a number: 0 is shorts, any other number last numbers. No From: an impl names a type of its crate, and Form is not of this one.
+#[tactic(auto, unfolding(crate::specs::Numbers::form_by))]
 pub fn form_by(number: u32) -> Form
     ensures { result ≡ form_by number }
 {
-    if number == 0 {
-        return Form::Shorts;
+    match number {
+        0 => Form::Shorts,
+        _ => Form::LastNumbers,
     }
-    Form::LastNumbers
 }
 
-// The number of a form.
+// The number of a form. No From either.
+#[tactic(auto, unfolding(crate::specs::Numbers::form_number))]
 pub fn number_of(form: Form) -> u32
     ensures { result ≡ form_number form }
 {
@@ -29,34 +30,40 @@ pub fn number_of(form: Form) -> u32
     }
 }
 
-// What an answer hands back to C: T and the further number, 0 where there is none; or the number of the refusal.
-#[derive(Clone, Copy)]
-pub enum Numbers {
-    Allocated { total: u32, further: u32 },
-    Refused(u32),
+// What an allocation hands back to C: T and the further number, 0 where there is none.
+#[derive(Clone, Copy, Debug, PartialEq, Eq)]
+pub struct Numbers {
+    pub total: u32,
+    pub further: u32,
+}
+
+// The number of a starting place, 0 where there is none.
+fn number_of_start(start: Option<Place>) -> u32
+    ensures { result ≡ handed_back (place_of start) }
+{
+    start.map_or(0, |place| place.0)
 }
 
 // The numbers of an allocation.
-fn allocated(total: Contracts, further: u32) -> Numbers
-    ensures { numbers_mean result ≡ value (record { total = total.0; further = further }) }
+fn allocated_numbers(allocated: Allocated) -> Numbers
+    ensures { handing_of result ≡ handing (allocation_of allocated) }
 {
-    Numbers::Allocated {
+    let (total, further) = match allocated {
+        Allocated::Wheel { total, blocks } => (total, blocks),
+        Allocated::ProRata { total, remainder } => (total, remainder.0),
+        Allocated::Lottery { total, start } => (total, number_of_start(start)),
+        Allocated::RemainderDraw { total, start } => (total, number_of_start(start)),
+    };
+    Numbers {
         total: total.0,
         further,
     }
 }
 
 // The numbers of an answer.
-pub fn numbers_of(answer: Answer) -> Numbers
+#[tactic(auto, unfolding(crate::specs::Numbers::handed_numbers))]
+pub fn numbers_of(answer: Result<Allocated, Refusal>) -> Result<Numbers, Refusal>
     ensures { numbers_mean result ≡ handed_numbers (answer_of answer) }
 {
-    match answer {
-        Answer::Wheel { total, blocks } => allocated(total, blocks),
-        Answer::ProRata { total, remainder } => allocated(total, remainder.0),
-        Answer::Lottery { total, start } => allocated(total, start.0),
-        Answer::LotteryUndrawn { total } => allocated(total, 0),
-        Answer::RemainderDraw { total, start } => allocated(total, start.0),
-        Answer::RemainderUndrawn { total } => allocated(total, 0),
-        Answer::Refused(refusal) => Numbers::Refused(series::number(refusal)),
-    }
+    answer.map(allocated_numbers)
 }

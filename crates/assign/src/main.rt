@@ -6,14 +6,14 @@ ghost use Rattle.series.specs.Results.{status};
 ghost use Rattle.responses.specs.Printed.{text_or_refusal, printed, MOST_PRINTED};
 ghost use Rattle.responses.specs.Responses.{response_of, Whole};
 
-use console::Input;
+use console::Program;
 use responses::Response;
 
-// The program's name.
-const PROGRAM: [u8; 6] = *b"assign";
-
-// What is said where standard output fails midway.
-const NOT_WHOLE: [u8; 64] = *b"the list on standard output is not whole and must not be booked\n";
+// What it is called, and what is said where standard output fails midway.
+const PROGRAM: Program = Program {
+    name: b"assign",
+    unwhole: b"the list on standard output is not whole and must not be booked\n",
+};
 
 // Room for all that can be printed: two names lines, 1,024 lines of at most 22 bytes and as many of at most 47.
 fn output_buffer() -> [u8; 70705]
@@ -30,23 +30,24 @@ fn respond(text: &[u8], output: &mut [u8]) -> Response
     assignment_text::respond(text, output)
 }
 
+// The main of the other program differs in its words, its room and its call: one function for both would take seven parameters and be no plainer.
 fn main(rt: HostRuntime) {
     let mut input = console::input_buffer();
     let mut output = output_buffer();
-    match console::read_input(&mut rt.stdin(), &mut input) {
-        Input::Bytes(n) => {
-            let response = respond(&input[..n], &mut output);
-            console::tell(
-                &mut rt.stdout(),
-                &mut rt.stderr(),
-                &PROGRAM,
-                &NOT_WHOLE,
-                response,
-                &output,
-            );
-        }
-        Input::Failed => {
-            console::say(&mut rt.stderr(), &PROGRAM, b"the input could not be read\n");
-        }
-    }
+    let Ok(n) = console::read_input(&mut rt.stdin(), &mut input) else {
+        console::say(
+            &mut rt.stderr(),
+            PROGRAM.name,
+            b"the input could not be read\n",
+        );
+        return;
+    };
+    let response = respond(&input[..n], &mut output);
+    console::tell(
+        &mut rt.stdout(),
+        &mut rt.stderr(),
+        &PROGRAM,
+        response,
+        &output,
+    );
 }

@@ -3,12 +3,13 @@ use Prim.Native.Nat.{ℕ, ◌+◌, ◌≤◌, ◌<◌}
 use mathlib.Core.Path.{◌≡◌, refl, sym, ap, ◌∙◌}
 use mathlib.Core.List.{List, [], ◌∷◌}
 use native.Mathlib.Omega.{arith}
-use lib.ListN.{length, get_or, set}
+use lib.ListN.{length, get_or, set, take, drop}
+use lib.Seq.{take_at}
 use Rattle.series.specs.Sums.{listed}
 use Rattle.series.specs.Places.{total, before, last}
 use Rattle.series.specs.RemainderDraw.{first_range, second_range}
 use Rattle.responses.specs.Printed.{range_columns}
-use Rattle.series.proofs.ListLaws.{filled, fill_none, fill_more, fill_length, fill_rest, fill_all}
+use Rattle.series.proofs.ListLaws.{filled, fill_none, fill_more}
 use Rattle.series.proofs.SumLaws.{length-listed, get_d_listed, listed_cong}
 use Rattle.series.proofs.RangeLaws.{ranges_within}
 use Rattle.series.proofs.PlaceLaws.{before-zero, before-suc, before_all}
@@ -20,70 +21,58 @@ first_of hs i = (first_range hs i).first
 abbrev pub last_of : List ℕ → ℕ → ℕ
 last_of hs i = (first_range hs i).last
 
+-- a list that is filled in up to n begins with what was filled in
+pub take_filled : (f : ℕ → ℕ) (l : List ℕ) {m : List ℕ} {i n : ℕ} → m ≡ filled f i l → i ≡ n → take n m ≡ listed f n
+take_filled f l {m} {i} {n} e h = ap (take n) e ∙ rw h (take_at (listed f n) (drop n l) n (length-listed f n))
+
 -- the ranges of the first i positions are filled in, and so many contracts are passed
-pub record Filling (hs firsts₀ firsts lasts : List ℕ) (passed i : ℕ) : Type 0 where
-  pub up : i ≤ length hs
+pub record Filling (hs firsts₀ lasts₀ firsts lasts : List ℕ) (passed i : ℕ) : Type 0 where
   pub sum : passed ≡ before hs i
   pub first_numbers : firsts ≡ filled (first_of hs) i firsts₀
-  pub last_numbers : lasts ≡ filled (last_of hs) i hs
+  pub last_numbers : lasts ≡ filled (last_of hs) i lasts₀
 
-pub fill_start : (hs firsts : List ℕ) → Filling hs firsts firsts hs 0 0
-fill_start hs firsts = record { up = omega arith; sum = sym (before-zero hs); first_numbers = fill_none (first_of hs) firsts; last_numbers = fill_none (last_of hs) hs }
+pub fill_start : (hs firsts lasts : List ℕ) → Filling hs firsts lasts firsts lasts 0 0
+fill_start hs firsts lasts = record { sum = sym (before-zero hs); first_numbers = fill_none (first_of hs) firsts; last_numbers = fill_none (last_of hs) lasts }
 
-module _ (hs firsts₀ firsts lasts : List ℕ) (passed i : ℕ) (lf : length firsts₀ ≡ length hs) (f : Filling hs firsts₀ firsts lasts passed i) where
-  pub firsts_long : length firsts ≡ length firsts₀
-  firsts_long = fill_length (first_of hs) firsts₀ firsts i f.first_numbers (omega (arith, f.up))
-
-  pub lasts_long : length lasts ≡ length hs
-  lasts_long = fill_length (last_of hs) hs lasts i f.last_numbers f.up
-
-  module _ (lt : i < length lasts) where
-    in_list : i < length hs
-    in_list = omega (arith, lasts_long)
-
-    -- position i has its shorts still
-    sum-next : passed + get_or lasts i 0 ≡ last hs i
+module _ {hs firsts₀ lasts₀ firsts lasts : List ℕ} {passed i : ℕ} (f : Filling hs firsts₀ lasts₀ firsts lasts passed i) where
+  module _ (lt : i < length hs) where
+    sum-next : passed + get_or hs i 0 ≡ last hs i
     unfolding last
-    sum-next = omega (arith, f.sum, fill_rest (last_of hs) hs lasts i f.last_numbers in_list)
+    sum-next = omega (arith, f.sum)
 
     -- no number passes T by more than one
-    pub fill_fits : (passed + get_or lasts i 0 ≤ total hs) × (passed ≤ total hs)
+    pub fill_fits : (passed + get_or hs i 0 ≤ total hs) × (passed ≤ total hs)
     unfolding first_range
-    fill_fits = let within = ranges_within hs i in_list in (omega (arith, sum-next, within.1), omega (arith, f.sum, within.0))
+    fill_fits = let within = ranges_within hs i lt in (omega (arith, sum-next, within.1), omega (arith, f.sum, within.0))
 
-    pub fill_next : Filling hs firsts₀ (set firsts i (passed + 1)) (set lasts i (passed + get_or lasts i 0)) (passed + get_or lasts i 0) (i + 1)
+    pub fill_next : length hs ≤ length firsts₀ → length hs ≤ length lasts₀
+        → Filling hs firsts₀ lasts₀ (set firsts i (passed + 1)) (set lasts i (passed + get_or hs i 0)) (passed + get_or hs i 0) (i + 1)
     unfolding first_range
-    fill_next =
+    fill_next inF inL =
         record {
-          up = omega (arith, in_list);
-          sum = sum-next ∙ sym (before-suc hs i in_list) ∙ ap (before hs) (omega arith);
-          first_numbers = fill_more (first_of hs) firsts₀ firsts i (passed + 1) f.first_numbers (omega (arith, in_list)) (omega (arith, f.sum));
-          last_numbers = fill_more (last_of hs) hs lasts i (passed + get_or lasts i 0) f.last_numbers in_list sum-next;
+          sum = sum-next ∙ sym (before-suc hs i lt) ∙ ap (before hs) (omega arith);
+          first_numbers = fill_more (first_of hs) firsts₀ firsts i (passed + 1) f.first_numbers (omega arith) (omega (arith, f.sum));
+          last_numbers = fill_more (last_of hs) lasts₀ lasts i (passed + get_or hs i 0) f.last_numbers (omega arith) sum-next;
         }
 
-  pub fill_end : length lasts ≤ i → (passed ≡ total hs) × (firsts ≡ listed (first_of hs) (length hs)) × (lasts ≡ listed (last_of hs) (length hs))
-  fill_end past =
-      let end : i ≡ length hs = omega (arith, f.up, lasts_long) in (
-        f.sum ∙ ap (before hs) end ∙ before_all hs,
-        f.first_numbers ∙ fill_all (first_of hs) firsts₀ i (omega arith) ∙ ap (listed (first_of hs)) end,
-        f.last_numbers ∙ fill_all (last_of hs) hs i (omega arith) ∙ ap (listed (last_of hs)) end,
-      )
+  pub fill_end : i ≡ length hs → (passed ≡ total hs) × (take (length hs) firsts ≡ listed (first_of hs) (length hs)) × (take (length hs) lasts ≡ listed (last_of hs) (length hs))
+  fill_end end = (f.sum ∙ ap (before hs) end ∙ before_all hs, take_filled (first_of hs) firsts₀ f.first_numbers end, take_filled (last_of hs) lasts₀ f.last_numbers end)
 
 -- ---- the second ranges
 
--- each number of a column, plus T
-raised : (hs : List ℕ) (f : ℕ → ℕ) (ns : List ℕ) (T : ℕ) → T ≡ total hs → ns ≡ listed f (length hs) → listed (λ i. get_or ns i 0 + T) (length ns) ≡ listed (λ i. f i + total hs) (length hs)
-raised hs f ns T eT e =
-    rw (e, eT, length-listed f (length hs)) (listed_cong (λ i. get_or (listed f (length hs)) i 0 + total hs) (λ i. f i + total hs) (length hs) (λ i h. ap (◌+ total hs) (get_d_listed f (length hs) i h)))
+-- a list that begins with the numbers of a column, each plus T
+raised : (hs : List ℕ) (f : ℕ → ℕ) (more : List ℕ) {ns : List ℕ} {T : ℕ} → T ≡ total hs → ns ≡ listed f (length hs) → take (length ns) more ≡ listed (λ i. get_or ns i 0 + T) (length ns) → take (length hs) more ≡ listed (λ i. f i + total hs) (length hs)
+raised hs f more eT e h =
+    (rw (e, eT, length-listed f (length hs)) at h) ∙ listed_cong (λ i. get_or (listed f (length hs)) i 0 + total hs) (λ i. f i + total hs) (length hs) (λ i h. ap (◌+ total hs) (get_d_listed f (length hs) i h))
 
-module _ (hs ns : List ℕ) (T : ℕ) (eT : T ≡ total hs) where
-  pub firsts_raised : ns ≡ listed (first_of hs) (length hs) → listed (λ i. get_or ns i 0 + T) (length ns) ≡ listed (λ i. (second_range hs i).first) (length hs)
+module _ (hs : List ℕ) {ns : List ℕ} {T : ℕ} (eT : T ≡ total hs) where
+  pub firsts_raised : (more : List ℕ) → ns ≡ listed (first_of hs) (length hs) → take (length ns) more ≡ listed (λ i. get_or ns i 0 + T) (length ns) → take (length hs) more ≡ listed (λ i. (second_range hs i).first) (length hs)
   unfolding second_range
-  firsts_raised = raised hs (first_of hs) ns T eT
+  firsts_raised more = raised hs (first_of hs) more eT
 
-  pub lasts_raised : ns ≡ listed (last_of hs) (length hs) → listed (λ i. get_or ns i 0 + T) (length ns) ≡ listed (λ i. (second_range hs i).last) (length hs)
+  pub lasts_raised : (more : List ℕ) → ns ≡ listed (last_of hs) (length hs) → take (length ns) more ≡ listed (λ i. get_or ns i 0 + T) (length ns) → take (length hs) more ≡ listed (λ i. (second_range hs i).last) (length hs)
   unfolding second_range
-  lasts_raised = raised hs (last_of hs) ns T eT
+  lasts_raised more = raised hs (last_of hs) more eT
 
   -- no number is above T by more than one
   near : (f : ℕ → ℕ) → ((i : ℕ) → i < length hs → f i ≤ total hs + 1) → ns ≡ listed f (length hs) → (i : ℕ) → i < length ns → get_or ns i 0 ≤ T + 1

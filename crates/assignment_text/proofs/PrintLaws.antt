@@ -5,7 +5,6 @@ use mathlib.Core.Bool.{true}
 use mathlib.Core.List.{List, [], ◌∷◌, ◌++◌, append-nil}
 use native.Mathlib.Omega.{arith}
 use borrow.Author.Tests.{eq-eqb, le-ltb}
-use Rattle.series.specs.declared.Refusal.{Refusal}
 use lib.Dec.{eqb}
 use lib.ListN.{length, drop}
 use lib.Seq.{drop-length}
@@ -16,10 +15,10 @@ use Rattle.series.specs.Sums.{listed}
 use Rattle.series.specs.Places.{total}
 use Rattle.series.specs.Series.{Series, MOST_CONTRACTS, method}
 use Rattle.series.specs.RemainderDraw.{first_range, second_range}
-use Rattle.series.specs.Answers.{Allocation, answer_of}
+use Rattle.series.specs.Answers.{Allocation}
 use Rattle.series.specs.Refusals.{verdict}
 use Rattle.series.specs.Call.{assigned, further, answer, output}
-use Rattle.series.specs.declared.Answer.{Answer}
+use Rattle.series.specs.Fair.{AllocatingCall}
 use Rattle.series.specs.declared.Method.{Method}
 use Rattle.series.specs.declared.Terms.{Terms}
 use Rattle.series.proofs.ResultLaws.{never, value_is}
@@ -72,54 +71,45 @@ none_ranged Method.RemainderDraw k accounts shorts = absurd (k refl)
 
 -- ---- the allocating call
 
-module _ (f : Form) (s : Series) where
+module _ (s : Series) where
   -- what the call hands back
   abbrev allocation : ℕ → Allocation
   allocation T = record { method = method s; total = T; further = further s.terms s.shorts }
 
-  refused_is : (v : Result ℕ) (n : ℕ) → ◌≡◌ {A = Result Allocation} (refused n) (v >>= (λ T. value (allocation T))) → (in_form f v >>= (λ T. value s)) ≡ refused (number_in f n)
-  refused_is (value T) n e = absurd (never n _ e)
-  refused_is (refused k) n e = let same : k ≡ n = cc in ap (λ i. refused (number_in f i)) same
-
-  -- the call answered with a refusal
-  pub turned_away_lem : (r : Response) (old new : Text) (n v : ℕ) → refused n ≡ answer s (length s.shorts) → v ≡ number_in f n → Responds r (refused_lines v) v old new → RespondsFor r (series_or_refusal f s) old new
-  unfolding answer series_or_refusal lines_for
-  turned_away_lem r old new n v e is p = rw (refused_is (verdict s (length s.shorts)) n e, ← is) p
+  refused_is : (f : Form) (v : Result ℕ) (n : ℕ) → ◌≡◌ {A = Result Allocation} (refused n) (v >>= (λ T. value (allocation T))) → (in_form f v >>= (λ T. value s)) ≡ refused (number_in f n)
+  refused_is f (value T) n e = absurd (never n _ e)
+  refused_is f (refused k) n e = let same : k ≡ n = cc in ap (λ i. refused (number_in f i)) same
 
   is_value : (v : Result ℕ) (x : Allocation) → value x ≡ (v >>= (λ T. value (allocation T))) → v ≡ value x.total
   is_value (value T) x e = let is : allocation T ≡ x = value_is (sym e) in ap value (ap (λ (y : Allocation). y.total) is)
   is_value (refused k) x e = absurd (never k x (sym e))
 
-  -- an answer that is no refusal is an allocation
-  allocation_in : (a : Answer) → ((r : Refusal) → a ≡ Answer.Refused r → ⊥) → (x : Allocation) × (answer_of a ≡ value x)
-  allocation_in (Answer.Wheel T b) k = (_, refl)
-  allocation_in (Answer.ProRata T l) k = (_, refl)
-  allocation_in (Answer.Lottery T p) k = (_, refl)
-  allocation_in (Answer.LotteryUndrawn T) k = (_, refl)
-  allocation_in (Answer.RemainderDraw T p) k = (_, refl)
-  allocation_in (Answer.RemainderUndrawn T) k = (_, refl)
-  allocation_in (Answer.Refused q) k = absurd (k q refl)
+-- the call answered with a refusal
+pub turned_away_lem : (f : Form) {s : Series} {r : Response} {old new : Text} {amounts amounts' : List ℕ} {n v : ℕ} → length amounts ≡ length s.shorts → AllocatingCall s (refused n) amounts amounts' → v ≡ number_in f n
+    → Responds r (refused_lines v) v old new → RespondsFor r (series_or_refusal f s) old new
+unfolding answer series_or_refusal lines_for
+turned_away_lem f {s} {n = n} l call is p = rw (refused_is s f (verdict s (length s.shorts)) n (rw l at call.answered), ← is) p
 
-  -- the call answered with an allocation
-  module _ (a : Answer) (k : (r : Refusal) → a ≡ Answer.Refused r → ⊥) (e : answer_of a ≡ answer s (length s.shorts)) where
-    accepted : verdict s (length s.shorts) ≡ value (allocation_in a k).0.total
-    unfolding answer
-    accepted = is_value (verdict s (length s.shorts)) (allocation_in a k).0 (sym (allocation_in a k).1 ∙ e)
+-- the call answered with an allocation
+module _ {s : Series} {x : Allocation} {amounts amounts' : List ℕ} (l : length amounts ≡ length s.shorts) (call : AllocatingCall s (value x) amounts amounts') where
+  accepted : verdict s (length s.shorts) ≡ value x.total
+  unfolding answer
+  accepted = is_value s (verdict s (length s.shorts)) x (rw l at call.answered)
 
-    -- the list was judged
-    pub few_contracts : total s.shorts ≤ MOST_CONTRACTS
-    few_contracts = (accepted_facts s _ (verdict_accepted s _ _ accepted)).total_most
+  -- the list was judged
+  pub few_contracts : total s.shorts ≤ MOST_CONTRACTS
+  few_contracts = (accepted_facts s _ (verdict_accepted s _ _ accepted)).total_most
 
-    -- the output holds the amounts alone
-    pub amounts_are : (old new : List ℕ) → length old ≡ length s.shorts → new ≡ output s old → new ≡ assigned s.terms s.shorts
-    unfolding output onto
-    amounts_are old new l is =
-        let none : drop (length (assigned s.terms s.shorts)) old ≡ [] = rw (length-assigned s.terms s.shorts, ← l) (drop-length old) in
-        is ∙ rw (l, accepted, none) (append-nil (assigned s.terms s.shorts))
+  -- the output holds the amounts alone
+  amounts_are : amounts' ≡ assigned s.terms s.shorts
+  unfolding output onto
+  amounts_are =
+      let none : drop (length (assigned s.terms s.shorts)) amounts ≡ [] = rw (length-assigned s.terms s.shorts, ← l) (drop-length amounts) in
+      call.written ∙ rw (l, accepted, none) (append-nil (assigned s.terms s.shorts))
 
-    pub assigned_all : (r : Response) (old new : Text) → Responds r (assigned_lines s.accounts (assigned s.terms s.shorts) ++ ranges_by (method s) s.accounts s.shorts) 0 old new → RespondsFor r (series_or_refusal f s) old new
-    unfolding series_or_refusal lines_for
-    assigned_all r old new p = rw accepted p
+  pub assigned_all : (f : Form) {r : Response} {old new : Text} → Responds r (assigned_lines s.accounts amounts' ++ ranges_by (method s) s.accounts s.shorts) 0 old new → RespondsFor r (series_or_refusal f s) old new
+  unfolding series_or_refusal lines_for
+  assigned_all f p = rw accepted (rw amounts_are at p)
 
 -- the same for equal shorts
 pub shorts_as : (f : Form) (t : Terms) (codes accounts hs hs' : List ℕ) (r : Response) (old new : Text) → hs ≡ hs'

@@ -4,6 +4,7 @@
 mod ranges;
 
 ghost use Rattle.std.specs.Prelude.{◌≡◌, ◌≤◌, ◌++◌, length};
+ghost use Rattle.series.specs.Answers.{series_of};
 ghost use Rattle.series.specs.Results.{status};
 ghost use Rattle.series.specs.Places.{total as total_of};
 ghost use Rattle.series.specs.Series.{MOST_CONTRACTS};
@@ -11,12 +12,13 @@ ghost use Rattle.forms.specs.Forms.{shorts_by};
 ghost use Rattle.text_rules.specs.Text.{MOST_LINES};
 ghost use Rattle.responses.specs.Printed.{assigned_lines, range_lines, ranges_by, series_or_refusal, text_or_refusal, printed};
 ghost use Rattle.responses.specs.Responses.{Responds, RespondsFor};
-ghost use Rattle.assignment_text.specs.Lists.{Lists, RangeLists};
+ghost use Rattle.assignment_text.specs.Lists.{Lists};
 
 use forms::Form;
+use ranges::Ranges;
 use responses::{Response, answer_written, refuse};
-use series::{Answer, Method, Terms};
-use series_text::Reading;
+use series::{Method, Positions, Series, Terms};
+use text_writing::Table;
 
 // The line before the amounts of an allocation.
 const ASSIGNED_NAMES: [u8; 17] = *b"account,assigned\n";
@@ -29,141 +31,117 @@ fn print(accounts: &[u32], amounts: &[u32], output: &mut [u8]) -> Response
     requires { (length accounts.now ≡ length amounts.now) × (length accounts.now ≤ MOST_LINES) }
     ensures { Responds result (assigned_lines accounts.now amounts.now) 0 output.old output.new }
 {
-    let writing = text_writing::write_table(&ASSIGNED_NAMES, accounts, amounts, output);
-    answer_written(writing)
+    answer_written(text_writing::write_table(&ASSIGNED_NAMES, accounts, amounts, output))
 }
 
-// Prints the amounts of an allocation and the ranges, which are made in the shorts and in lent lists.
-fn print_ranges(
-    accounts: &[u32],
-    numbers: &mut [u32],
-    amounts: &[u32],
-    firsts: &mut [u32],
-    firsts2: &mut [u32],
-    lasts2: &mut [u32],
-    output: &mut [u8],
-) -> Response
-    requires { Lists accounts.now numbers.old amounts.now × RangeLists numbers.old firsts.old firsts2.old lasts2.old }
-    ensures { Responds result (assigned_lines accounts.now amounts.now ++ range_lines accounts.now numbers.old) 0 output.old output.new }
-{
-    ranges::fill(numbers, firsts, firsts2, lasts2);
-    let writing = text_writing::write_tables(
-        &ASSIGNED_NAMES,
-        accounts,
-        amounts,
-        &RANGE_NAMES,
-        firsts,
-        numbers,
-        firsts2,
-        lasts2,
-        output,
-    );
-    answer_written(writing)
-}
-
-// Prints the amounts of an allocation and the ranges, made in the shorts, in a lent list and in lists of its own.
+// Prints the amounts of an allocation and the ranges of its positions. Built into respond, its lists would take the stack of a call past 64 KB.
+#[inline(never)]
 fn print_with_ranges(
     accounts: &[u32],
-    shorts: &mut [u32],
+    shorts: &[u32],
     amounts: &[u32],
-    firsts: &mut [u32],
     output: &mut [u8],
 ) -> Response
-    requires { Lists accounts.now shorts.old amounts.now × (length firsts.old ≡ length shorts.old) × (total_of shorts.old ≤ MOST_CONTRACTS) }
-    ensures { Responds result (assigned_lines accounts.now amounts.now ++ range_lines accounts.now shorts.old) 0 output.old output.new }
+    requires { Lists accounts.now shorts.now amounts.now × (total_of shorts.now ≤ MOST_CONTRACTS) }
+    ensures { Responds result (assigned_lines accounts.now amounts.now ++ range_lines accounts.now shorts.now) 0 output.old output.new }
 {
     let n = shorts.len();
-    let mut firsts2 = [0u32; 1024];
-    let mut lasts2 = [0u32; 1024];
-    print_ranges(
-        accounts,
-        shorts,
-        amounts,
-        firsts,
-        &mut firsts2[..n],
-        &mut lasts2[..n],
-        output,
-    )
+    let mut ranges = Ranges {
+        firsts: [0; 1024],
+        lasts: [0; 1024],
+        firsts2: [0; 1024],
+        lasts2: [0; 1024],
+    };
+    ranges::fill(shorts, &mut ranges);
+    let first = Table {
+        names: &ASSIGNED_NAMES,
+        columns: &[accounts, amounts],
+    };
+    let second = Table {
+        names: &RANGE_NAMES,
+        columns: &[
+            accounts,
+            &ranges.firsts[..n],
+            &ranges.lasts[..n],
+            &ranges.firsts2[..n],
+            &ranges.lasts2[..n],
+        ],
+    };
+    answer_written(text_writing::write_tables(&first, &second, output))
 }
 
-// Prints an allocation by the method: its amounts, and under R the ranges after them, for which the shorts and a list are lent.
-fn print_by(
-    method: Method,
-    accounts: &[u32],
-    shorts: &mut [u32],
-    amounts: &[u32],
-    firsts: &mut [u32],
-    output: &mut [u8],
-) -> Response
-    requires { Lists accounts.now shorts.old amounts.now × (length firsts.old ≡ length shorts.old) × (total_of shorts.old ≤ MOST_CONTRACTS) }
-    ensures { Responds result (assigned_lines accounts.now amounts.now ++ ranges_by method accounts.now shorts.old) 0 output.old output.new }
+// Prints an allocation by the method: its amounts, and under R the ranges after them.
+fn print_by(series: &Series, amounts: &[u32], output: &mut [u8]) -> Response
+    requires { Lists (series_of series.now).accounts (series_of series.now).shorts amounts.now × (total_of (series_of series.now).shorts ≤ MOST_CONTRACTS) }
+    ensures { Responds result (assigned_lines (series_of series.now).accounts amounts.now ++ ranges_by series.now.terms.method (series_of series.now).accounts (series_of series.now).shorts) 0 output.old output.new }
 {
-    match method {
-        Method::RemainderDraw => print_with_ranges(accounts, shorts, amounts, firsts, output),
-        _ => print(accounts, amounts, output),
+    let positions = series.positions;
+    match series.terms.method {
+        Method::RemainderDraw => {
+            print_with_ranges(positions.accounts, positions.shorts, amounts, output)
+        }
+        _ => print(positions.accounts, amounts, output),
     }
 }
 
-// Assigns a series of at most 1,024 positions that was listed in a form, and prints the amounts or the refusal. The codes and the shorts are lent to the printing.
-fn assign(
-    form: Form,
-    terms: Terms,
-    codes: &mut [u32],
-    accounts: &[u32],
-    shorts: &mut [u32],
-    amounts: &mut [u32],
-    output: &mut [u8],
-) -> Response
-    requires { Lists accounts.now shorts.old amounts.old × (length codes.old ≡ length shorts.old) }
-    ensures { RespondsFor result (series_or_refusal form (record { terms = terms; codes = codes.old; accounts = accounts.now; shorts = shorts.old })) output.old output.new }
+// Assigns a series of at most 1,024 positions that was listed in a form, and prints the amounts or the refusal.
+fn assign(form: Form, series: &Series, amounts: &mut [u32], output: &mut [u8]) -> Response
+    requires { Lists (series_of series.now).accounts (series_of series.now).shorts amounts.old }
+    ensures { RespondsFor result (series_or_refusal form (series_of series.now)) output.old output.new }
 {
-    let answer = allocation::allocate(terms, codes, accounts, shorts, amounts);
-    let Answer::Refused(refusal) = answer else {
-        let method = terms.method;
-        return print_by(method, accounts, shorts, amounts, codes, output);
-    };
-    refuse(forms::refusal_in(form, refusal), output)
+    match allocation::allocate(series, amounts) {
+        Ok(_) => print_by(series, amounts, output),
+        Err(refusal) => refuse(forms::refusal_in(form, refusal), output),
+    }
 }
 
 // Assigns a listed series of at most 1,024 positions; its shorts are put in the place of its numbers.
 fn assign_listing(
     form: Form,
     terms: Terms,
-    codes: &mut [u32],
+    codes: &[u32],
     accounts: &[u32],
     numbers: &mut [u32],
     amounts: &mut [u32],
     output: &mut [u8],
 ) -> Response
-    requires { Lists accounts.now numbers.old amounts.old × (length codes.old ≡ length numbers.old) }
-    ensures { RespondsFor result (series_or_refusal form (record { terms = terms; codes = codes.old; accounts = accounts.now; shorts = shorts_by form numbers.old })) output.old output.new }
+    requires { Lists accounts.now numbers.old amounts.old }
+    ensures { RespondsFor result (series_or_refusal form (record { terms = terms; codes = codes.now; accounts = accounts.now; shorts = shorts_by form numbers.old })) output.old output.new }
 {
     forms::to_shorts(form, numbers);
-    assign(form, terms, codes, accounts, numbers, amounts, output)
+    let series = Series {
+        terms,
+        positions: Positions {
+            codes,
+            accounts,
+            shorts: numbers,
+        },
+    };
+    assign(form, &series, amounts, output)
 }
 
 // Prints what a text leads to: the amounts of its series, for R with the ranges, or a refusal. An output that is too short keeps its bytes, and bytes past what is printed are kept.
 pub fn respond(text: &[u8], output: &mut [u8]) -> Response
     ensures { Responds result (printed text.now) (status (text_or_refusal text.now)) output.old output.new }
 {
-    let mut codes = [0u32; 1024];
-    let mut accounts = [0u32; 1024];
-    let mut numbers = [0u32; 1024];
-    let mut amounts = [0u32; 1024];
+    // Three lists, as reading fills lent ones, and one for the amounts.
+    let mut codes = [0; 1024];
+    let mut accounts = [0; 1024];
+    let mut numbers = [0; 1024];
+    let mut amounts = [0; 1024];
     match series_text::read(text, &mut codes, &mut accounts, &mut numbers) {
-        Reading::Refused(refusal) => refuse(refusal, output),
-        Reading::Series {
-            form,
-            terms,
-            positions,
-        } => assign_listing(
-            form,
-            terms,
-            &mut codes[..positions],
-            &accounts[..positions],
-            &mut numbers[..positions],
-            &mut amounts[..positions],
-            output,
-        ),
+        Err(refusal) => refuse(refusal, output),
+        Ok(read) => {
+            let n = read.positions;
+            assign_listing(
+                read.form,
+                read.terms,
+                &codes[..n],
+                &accounts[..n],
+                &mut numbers[..n],
+                &mut amounts[..n],
+                output,
+            )
+        }
     }
 }

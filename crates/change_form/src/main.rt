@@ -7,15 +7,14 @@ ghost use Rattle.responses.specs.Responses.{response_of, Whole};
 ghost use Rattle.text_rules.specs.Calls.{change_into, MOST_CHANGED};
 ghost use Rattle.change_form.specs.Changed.{changed_lines};
 
-use console::Input;
+use console::Program;
 use responses::Response;
-use text_writing::Writing;
 
-// The program's name.
-const PROGRAM: [u8; 11] = *b"change_form";
-
-// What is said where standard output fails midway.
-const NOT_WHOLE: [u8; 62] = *b"the text on standard output is not whole and must not be used\n";
+// What it is called, and what is said where standard output fails midway.
+const PROGRAM: Program = Program {
+    name: b"change_form",
+    unwhole: b"the text on standard output is not whole and must not be used\n",
+};
 
 // Room for all that can be printed: no changed text is longer.
 fn output_buffer() -> [u8; 31830]
@@ -30,28 +29,32 @@ fn respond(text: &[u8], output: &mut [u8]) -> Response
     ensures { Whole (response_of result) (changed_lines text.now) (status (change_into text.now MOST_CHANGED)) output.new }
 {
     match form_change::change(text, output) {
-        Writing::Written(n) => Response::Printed(n),
-        Writing::Refused(refusal) => responses::refuse(refusal, output),
+        Ok(n) => Response {
+            written: n,
+            refusal: None,
+        },
+        Err(refusal) => responses::refuse(refusal, output),
     }
 }
 
+// The main of the other program differs in its words, its room and its call: one function for both would take seven parameters and be no plainer.
 fn main(rt: HostRuntime) {
     let mut input = console::input_buffer();
     let mut output = output_buffer();
-    match console::read_input(&mut rt.stdin(), &mut input) {
-        Input::Bytes(n) => {
-            let response = respond(&input[..n], &mut output);
-            console::tell(
-                &mut rt.stdout(),
-                &mut rt.stderr(),
-                &PROGRAM,
-                &NOT_WHOLE,
-                response,
-                &output,
-            );
-        }
-        Input::Failed => {
-            console::say(&mut rt.stderr(), &PROGRAM, b"the input could not be read\n");
-        }
-    }
+    let Ok(n) = console::read_input(&mut rt.stdin(), &mut input) else {
+        console::say(
+            &mut rt.stderr(),
+            PROGRAM.name,
+            b"the input could not be read\n",
+        );
+        return;
+    };
+    let response = respond(&input[..n], &mut output);
+    console::tell(
+        &mut rt.stdout(),
+        &mut rt.stderr(),
+        &PROGRAM,
+        response,
+        &output,
+    );
 }

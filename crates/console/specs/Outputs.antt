@@ -1,5 +1,5 @@
 -- What is said to a person, and where nothing is.
-use Rattle.std.specs.Prelude.{ℕ, ◌≡◌, ◌≤◌, List, [], ◌∷◌, ◌++◌, length, take, Option}
+use Rattle.std.specs.Prelude.{ℕ, ◌≡◌, ◌≤◌, List, [], ◌∷◌, ◌++◌, length, take, Option, IfNone}
 use Rattle.std.specs.Io.KnownBytes.{Appends, Keeps}
 use Rattle.responses.specs.declared.Response.{Response}
 
@@ -9,5 +9,4 @@ Says program words written old new = (named parted : ℕ) × Appends old new (ta
 
 -- where all that was printed for a call is written, and that is no refusal, nothing is said
 abbrev pub SilentIfWhole : Response → ℕ → List ℕ → Option (List ℕ) → Option (List ℕ) → Type 0
-SilentIfWhole (Response.Printed n) written output old new = n ≤ length output → written ≡ n → Keeps old new
-SilentIfWhole (Response.Refused n r) written output old new = Unit
+SilentIfWhole r written output old new = IfNone r.refusal (r.written ≤ length output → written ≡ r.written → Keeps old new)

@@ -14,52 +14,52 @@ use responses::Response;
 use series::Refusal;
 use std::io::{ErrorKind, Read, Write};
 
-// What reading came to: a number of bytes, or a failure, which is never taken for the end of the input.
+// A read failed, which is never taken for the end of the input.
+#[derive(Clone, Copy, Debug, PartialEq, Eq)]
+pub struct ReadFailed;
+
+// A program: its name, and what it says where its output is cut short.
 #[derive(Clone, Copy)]
-pub enum Input {
-    Bytes(usize),
-    Failed,
+pub struct Program<'a> {
+    pub name: &'a [u8],
+    pub unwhole: &'a [u8],
 }
 
 // So many interruptions in a row, with no byte moved between them, count as a failure: every loop must end.
-const INTERRUPTIONS: u32 = 1000000;
+const INTERRUPTIONS: u32 = 1_000_000;
 
 // Reads once; no bytes are the end of the input.
 // Left open: which error is a failure, and of standard input that its bytes stand in the buffer. Tests: `interrupted_and_short`, `interrupted_without_end` and `a_read_that_fails` of streams.rs.
-fn read_some<R: Read>(input: &mut R, buffer: &mut [u8]) -> Input
+fn read_some<R: Read>(input: &mut R, buffer: &mut [u8]) -> Result<usize, ReadFailed>
     ensures within { Within result (length buffer.old) }
     ensures bytes { ReadsSome result buffer.new (R.remaining input.old) (R.remaining input.new) }
 {
     for _ in 0..INTERRUPTIONS {
         match input.read(buffer) {
-            Ok(n) => return Input::Bytes(n),
-            Err(error) => {
-                if error.kind() != ErrorKind::Interrupted {
-                    return Input::Failed;
-                }
-            }
+            Ok(n) => return Ok(n),
+            Err(error) if error.kind() == ErrorKind::Interrupted => {}
+            Err(_) => return Err(ReadFailed),
         }
     }
-    Input::Failed
+    Err(ReadFailed)
 }
 
 // Reads until the input ends or the buffer is full.
 // Left open: of standard input that no byte is left out before either, and that each stands in its place. Tests: `interrupted_and_short` of streams.rs, `a_few_bytes_at_a_time` and `empty_and_too_long` of program.rs; a failure after some bytes, `a_read_that_fails_midway` of program.rs.
-pub fn read_input<R: Read>(input: &mut R, buffer: &mut [u8]) -> Input
+pub fn read_input<R: Read>(input: &mut R, buffer: &mut [u8]) -> Result<usize, ReadFailed>
     ensures within { Within result (length buffer.old) }
     ensures bytes { ReadsAll result buffer.new (R.remaining input.old) (R.remaining input.new) }
 {
     let mut n = 0;
+    // A turn reads as many bytes as the stream gives, so that no range counts them.
     while n < buffer.len() {
-        let Input::Bytes(more) = read_some(input, &mut buffer[n..]) else {
-            return Input::Failed;
-        };
+        let more = read_some(input, &mut buffer[n..])?;
         if more == 0 {
-            return Input::Bytes(n);
+            return Ok(n);
         }
         n += more;
     }
-    Input::Bytes(n)
+    Ok(n)
 }
 
 // Writes once, and hands back the number of bytes written, 0 where that failed.
@@ -71,11 +71,8 @@ fn write_some<W: Write>(stream: &mut W, bytes: &[u8]) -> usize
     for _ in 0..INTERRUPTIONS {
         match stream.write(bytes) {
             Ok(n) => return n,
-            Err(error) => {
-                if error.kind() != ErrorKind::Interrupted {
-                    return 0;
-                }
-            }
+            Err(error) if error.kind() == ErrorKind::Interrupted => {}
+            Err(_) => return 0,
         }
     }
     0
@@ -88,6 +85,7 @@ fn write_whole<W: Write>(stream: &mut W, bytes: &[u8]) -> usize
     ensures bytes { Appends (W.contents stream.old) (W.contents stream.new) (take result bytes.now) }
 {
     let mut n = 0;
+    // A turn writes as many bytes as the stream takes, so that no range counts them.
     while n < bytes.len() {
         let more = write_some(stream, &bytes[n..]);
         if more == 0 {
@@ -114,8 +112,7 @@ pub fn say<W: Write>(errors: &mut W, program: &[u8], words: &[u8]) -> usize
 fn print<P: Write, E: Write>(
     printed: &mut P,
     errors: &mut E,
-    program: &[u8],
-    unwhole: &[u8],
+    program: &Program,
     bytes: &[u8],
 ) -> usize
     ensures within { result ≤ length bytes.now }
@@ -127,9 +124,9 @@ fn print<P: Write, E: Write>(
         return written;
     }
     if written == 0 {
-        say(errors, program, b"the output could not be written\n");
+        say(errors, program.name, b"the output could not be written\n");
     } else {
-        say(errors, program, unwhole);
+        say(errors, program.name, program.unwhole);
     }
     written
 }
@@ -139,10 +136,10 @@ fn print<P: Write, E: Write>(
 fn explain<W: Write>(errors: &mut W, program: &[u8], refusal: Refusal) -> usize
     ensures { result ≤ longest }
 {
-    let number = series::number(refusal);
-    let mut digits = [0u8; 20];
-    let k = io::decimal(number as u64, &mut digits);
-    let mut words = [0u8; explanation::LONGEST];
+    let number = u32::from(refusal);
+    let mut digits = [0; 20];
+    let k = io::decimal(u64::from(number), &mut digits);
+    let mut words = [0; explanation::LONGEST];
     let n = explanation::explain(number, &mut words);
     say(errors, program, b"refused, ");
     write_whole(errors, &digits[..k]);
@@ -155,8 +152,7 @@ fn explain<W: Write>(errors: &mut W, program: &[u8], refusal: Refusal) -> usize
 fn print_first<P: Write, E: Write>(
     printed: &mut P,
     errors: &mut E,
-    program: &[u8],
-    unwhole: &[u8],
+    program: &Program,
     output: &[u8],
     n: usize,
 ) -> usize
@@ -165,9 +161,9 @@ fn print_first<P: Write, E: Write>(
     ensures silent { n ≤ length output.now → result ≡ n → Keeps (E.contents errors.old) (E.contents errors.new) }
 {
     if output.len() < n {
-        return print(printed, errors, program, unwhole, output);
+        return print(printed, errors, program, output);
     }
-    print(printed, errors, program, unwhole, &output[..n])
+    print(printed, errors, program, &output[..n])
 }
 
 // Writes what a call printed to an output, and says what a refusal means once its lines are written. How many bytes are written the system decides.
@@ -175,8 +171,7 @@ fn print_first<P: Write, E: Write>(
 pub fn tell<P: Write, E: Write>(
     printed: &mut P,
     errors: &mut E,
-    program: &[u8],
-    unwhole: &[u8],
+    program: &Program,
     response: Response,
     output: &[u8],
 ) -> usize
@@ -184,16 +179,13 @@ pub fn tell<P: Write, E: Write>(
     ensures bytes { Appends (P.contents printed.old) (P.contents printed.new) (take result output.now) }
     ensures silent { SilentIfWhole response result output.now (E.contents errors.old) (E.contents errors.new) }
 {
-    match response {
-        Response::Printed(n) => print_first(printed, errors, program, unwhole, output, n),
-        Response::Refused(n, refusal) => {
-            let written = print_first(printed, errors, program, unwhole, output, n);
-            if written == n {
-                explain(errors, program, refusal);
-            }
-            written
+    let written = print_first(printed, errors, program, output, response.written);
+    if let Some(refusal) = response.refusal {
+        if written == response.written {
+            explain(errors, program.name, refusal);
         }
     }
+    written
 }
 
 // Room for one byte more than a text may have.

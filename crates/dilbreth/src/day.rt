@@ -5,10 +5,10 @@ ghost use Rattle.activity_rules.specs.Activity.{investor_of, market_maker_of, in
 ghost use Rattle.dilbreth.specs.Days.{day_by, Processes};
 ghost use Rattle.dilbreth.specs.Exports.{Hands};
 
-use activity::{Day, Investor, InvestorDay, MarketMaker, MarketMakerDay, Transactions};
+use activity_rules::{Day, Investor, MarketMaker, Transactions};
 use series::Contracts;
 
-// The kind of day by its number: 0 is ordinary, any other the final trading day.
+// The kind of day by its number in C: 0 is ordinary, any other the final trading day.
 fn day_by(number: u32) -> Day
     ensures { result ≡ day_by number }
 {
@@ -49,13 +49,13 @@ pub extern "C" fn dilbreth_process_investor(
         exercised: Contracts(exercised),
     };
     match activity::process_investor(day_by(day), investor) {
-        InvestorDay::After(after) => {
+        Ok(after) => {
             *limit = after.limit.0;
             *long_after = after.long.0;
             *short_after = after.short.0;
             0
         }
-        InvestorDay::Refused(refusal) => series::number(refusal),
+        Err(refusal) => u32::from(refusal),
     }
 }
 
@@ -78,10 +78,10 @@ pub extern "C" fn dilbreth_process_market_maker(
         sales: Contracts(sales),
     };
     match activity::process_market_maker(day_by(day), maker) {
-        MarketMakerDay::Limit(most) => {
+        Ok(most) => {
             *limit = most.0;
             0
         }
-        MarketMakerDay::Refused(refusal) => series::number(refusal),
+        Err(refusal) => u32::from(refusal),
     }
 }

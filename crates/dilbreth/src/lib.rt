@@ -13,13 +13,11 @@ ghost use Rattle.jobs.specs.Jobs.{JobsCall};
 ghost use Rattle.text_writing.specs.Answers.{writing_of};
 ghost use Rattle.dilbreth.specs.Exports.{listing_by, Allocates, Reads, written_by, printed_into, Hands, Writes};
 
-use answer_numbers::{Numbers, numbers_of};
+use answer_numbers::{form_by, number_of, numbers_of};
+use forms::Listing;
 use jobs::Job;
-use responses::Response;
-use series::{Contracts, terms_of};
-use series_text::Reading;
-use text_words::letters::Named;
-use text_writing::Writing;
+use series::{Contracts, Refusal, terms_of};
+use text_words::letters::{letter_of, method_by};
 
 // Assigns exercised contracts by the method W, P, L or R; any other letter is 14.
 #[unsafe(no_mangle)]
@@ -38,22 +36,23 @@ pub extern "C" fn dilbreth_allocate(
 ) -> u32
     ensures { Allocates (listing_by method exercised draw increment form codes.now accounts.now numbers.now) result amounts.old amounts.new (lent total.old total.new) (lent further.old further.new) }
 {
-    let Named::Method(named) = text_words::letters::method_by(method) else {
-        return 14;
+    let Some(named) = method_by(method) else {
+        return u32::from(Refusal::UnknownMethod);
     };
-    let terms = terms_of(named, Contracts(exercised), draw, Contracts(increment));
-    let listed = answer_numbers::form_by(form);
-    let answer = listing::allocate(listed, terms, codes, accounts, numbers, amounts);
-    match numbers_of(answer) {
-        Numbers::Allocated {
-            total: sum,
-            further: number,
-        } => {
-            *total = sum;
-            *further = number;
+    let listing = Listing {
+        form: form_by(form),
+        terms: terms_of(named, Contracts(exercised), draw, Contracts(increment)),
+        codes,
+        accounts,
+        numbers,
+    };
+    match numbers_of(listing::allocate(&listing, amounts)) {
+        Ok(handed) => {
+            *total = handed.total;
+            *further = handed.further;
             0
         }
-        Numbers::Refused(number) => number,
+        Err(refusal) => u32::from(refusal),
     }
 }
 
@@ -67,7 +66,10 @@ pub extern "C" fn dilbreth_allocate_jobs(
 ) -> u32
     ensures { JobsCall accounts.now shorts.now result (lent jobs.old jobs.new) (lent amounts.old amounts.new) }
 {
-    jobs::allocate_jobs(accounts, shorts, jobs, amounts)
+    match jobs::allocate_jobs(accounts, shorts, jobs, amounts) {
+        Ok(()) => 0,
+        Err(refusal) => u32::from(refusal),
+    }
 }
 
 // Reads the text of a series into three lists.
@@ -91,34 +93,30 @@ pub extern "C" fn dilbreth_read(
         (lent positions.old positions.new) }
 {
     match series_text::read(text, codes, accounts, numbers) {
-        Reading::Series {
-            form: listed,
-            terms,
-            positions: n,
-        } => {
-            let named = terms.method;
-            *method = text_words::letters::letter_of(named);
+        Ok(read) => {
+            let terms = read.terms;
+            *method = letter_of(terms.method);
             *exercised = terms.exercised.0;
             *draw = terms.draw;
             *increment = terms.increment.0;
-            *form = answer_numbers::number_of(listed);
-            *positions = n;
+            *form = number_of(read.form);
+            *positions = read.positions;
             0
         }
-        Reading::Refused(refusal) => series::number(refusal),
+        Err(refusal) => u32::from(refusal),
     }
 }
 
 // Hands the length of a written text back behind an argument, and answers 0 or the number of the refusal.
-fn hand_length(writing: Writing, written: &mut usize) -> u32
+fn hand_length(writing: Result<usize, Refusal>, written: &mut usize) -> u32
     ensures { Hands (writing_of writing) result (lent written.old written.new) }
 {
     match writing {
-        Writing::Written(n) => {
+        Ok(n) => {
             *written = n;
             0
         }
-        Writing::Refused(refusal) => series::number(refusal),
+        Err(unwritten) => u32::from(unwritten),
     }
 }
 
@@ -138,13 +136,17 @@ pub extern "C" fn dilbreth_write(
 ) -> u32
     ensures { Writes (written_by (listing_by method exercised draw increment form codes.now accounts.now numbers.now) (length text.old)) result text.old text.new (lent written.old written.new) }
 {
-    let Named::Method(named) = text_words::letters::method_by(method) else {
-        return 14;
+    let Some(named) = method_by(method) else {
+        return u32::from(Refusal::UnknownMethod);
     };
-    let values = terms_of(named, Contracts(exercised), draw, Contracts(increment));
-    let wanted = answer_numbers::form_by(form);
-    let writing = text_writing::write(wanted, values, codes, accounts, numbers, text);
-    hand_length(writing, written)
+    let listing = Listing {
+        form: form_by(form),
+        terms: terms_of(named, Contracts(exercised), draw, Contracts(increment)),
+        codes,
+        accounts,
+        numbers,
+    };
+    hand_length(text_writing::write(&listing, text), written)
 }
 
 // Changes a text from its form to the other.
@@ -161,17 +163,10 @@ pub extern "C" fn dilbreth_change(text: &[u8], output: &mut [u8], written: &mut 
 pub extern "C" fn dilbreth_respond(text: &[u8], output: &mut [u8], written: &mut usize) -> u32
     ensures { Writes (printed_into text.now (length output.old)) result output.old output.new (lent written.old written.new) }
 {
-    match assignment_text::respond(text, output) {
-        Response::Printed(n) => {
-            *written = n;
-            0
-        }
-        Response::Refused(n, _) => {
-            if n == 0 {
-                return 4;
-            }
-            *written = n;
-            0
-        }
+    let response = assignment_text::respond(text, output);
+    if response.written == 0 {
+        return u32::from(Refusal::OutputTooShort);
     }
+    *written = response.written;
+    0
 }

@@ -4,7 +4,7 @@ ghost use Rattle.series.specs.Outputs.{lent};
 ghost use Rattle.merging.specs.Merging.{list_of, merge_into};
 ghost use Rattle.dilbreth.specs.Exports.{HandsMerged};
 
-use merging::Merging;
+use merging::AccountList;
 
 // Merges two lists that rise by account, and hands back the number of positions and T.
 #[unsafe(no_mangle)]
@@ -21,22 +21,20 @@ pub extern "C" fn dilbreth_merge(
     ensures { HandsMerged (merge_into (list_of first_accounts.now first_shorts.now) (list_of second_accounts.now second_shorts.now) (length accounts.old) (length shorts.old)) result
         (lent accounts.old accounts.new) (lent shorts.old shorts.new) (lent positions.old positions.new) (lent total.old total.new) }
 {
-    match merging::merge(
-        first_accounts,
-        first_shorts,
-        second_accounts,
-        second_shorts,
-        accounts,
-        shorts,
-    ) {
-        Merging::Merged {
-            positions: n,
-            total: sum,
-        } => {
-            *positions = n;
-            *total = sum.0;
+    let first = AccountList {
+        accounts: first_accounts,
+        shorts: first_shorts,
+    };
+    let second = AccountList {
+        accounts: second_accounts,
+        shorts: second_shorts,
+    };
+    match merging::merge(&first, &second, accounts, shorts) {
+        Ok(merged) => {
+            *positions = merged.positions;
+            *total = merged.total.0;
             0
         }
-        Merging::Refused(refusal) => series::number(refusal),
+        Err(refusal) => u32::from(refusal),
     }
 }

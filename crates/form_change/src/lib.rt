@@ -4,16 +4,14 @@
 ghost use Rattle.std.specs.Prelude.{◌≡◌, ◌≤◌, length};
 ghost use Rattle.series.specs.Places.{total as total_of};
 ghost use Rattle.series.specs.Series.{MOST_CONTRACTS};
-ghost use Rattle.forms.specs.Forms.{sums};
+ghost use Rattle.forms.specs.Forms.{listing_of, sums};
 ghost use Rattle.forms.specs.declared.Form.{Form as Form·};
 ghost use Rattle.text_rules.specs.Calls.{changed_into, change_into, WritingCall};
 ghost use Rattle.text_writing.specs.Answers.{writing_of};
 
-use forms::Form;
-use rising_lists::Judged;
-use series::Terms;
-use series_text::Reading;
-use text_writing::Writing;
+use forms::{Form, Listing, fill_shorts, in_form};
+use list_judging::judge_list;
+use series::Refusal;
 
 // Fills in the last numbers of shorts: their sums, one position after the other.
 fn fill_lasts(shorts: &[u32], lasts: &mut [u32])
@@ -21,101 +19,75 @@ fn fill_lasts(shorts: &[u32], lasts: &mut [u32])
     ensures { lasts.new ≡ sums 0 shorts.now }
 {
     let mut sum = 0;
-    let mut i = 0;
-    while i < shorts.len() {
-        sum += shorts[i];
+    for (i, &count) in shorts.iter().enumerate() {
+        sum += count;
         lasts[i] = sum;
-        i += 1;
     }
 }
 
 // Judges a list of shorts, and writes its text by last numbers, which are made in a lent list.
-fn change_shorts(
-    terms: Terms,
-    codes: &[u32],
-    accounts: &[u32],
-    shorts: &[u32],
-    lasts: &mut [u32],
-    output: &mut [u8],
-) -> Writing
-    requires { length lasts.old ≡ length shorts.now }
-    ensures { WritingCall (changed_into (record { form = Form·.Shorts; terms = terms; codes = codes.now; accounts = accounts.now; numbers = shorts.now }) (length output.old)) (writing_of result) output.old output.new }
+fn change_shorts(listing: &Listing, lasts: &mut [u32], output: &mut [u8]) -> Result<usize, Refusal>
+    requires form { listing.now.form ≡ Form·.Shorts }
+    requires room { length lasts.old ≡ length listing.now.numbers.now }
+    ensures { WritingCall (changed_into (listing_of listing.now) (length output.old)) (writing_of result) output.old output.new }
 {
-    let method = terms.method;
-    match list_judging::judge_list(method, codes, accounts, shorts) {
-        Judged::Refused(refusal) => Writing::Refused(refusal),
-        Judged::Accepted(_) => {
-            fill_lasts(shorts, lasts);
-            text_writing::write(Form::LastNumbers, terms, codes, accounts, lasts, output)
-        }
-    }
+    let series = listing.series(listing.numbers);
+    judge_list(listing.terms.method, &series.positions)?;
+    fill_lasts(listing.numbers, lasts);
+    let changed = Listing {
+        form: Form::LastNumbers,
+        numbers: lasts,
+        ..*listing
+    };
+    text_writing::write(&changed, output)
 }
 
 // Judges a list of last numbers by its shorts, which are made in a lent list, and writes its text by these.
-fn change_lasts(
-    terms: Terms,
-    codes: &[u32],
-    accounts: &[u32],
-    lasts: &[u32],
-    shorts: &mut [u32],
-    output: &mut [u8],
-) -> Writing
-    requires { length shorts.old ≡ length lasts.now }
-    ensures { WritingCall (changed_into (record { form = Form·.LastNumbers; terms = terms; codes = codes.now; accounts = accounts.now; numbers = lasts.now }) (length output.old)) (writing_of result) output.old output.new }
+fn change_lasts(listing: &Listing, shorts: &mut [u32], output: &mut [u8]) -> Result<usize, Refusal>
+    requires form { listing.now.form ≡ Form·.LastNumbers }
+    requires room { length shorts.old ≡ length listing.now.numbers.now }
+    ensures { WritingCall (changed_into (listing_of listing.now) (length output.old)) (writing_of result) output.old output.new }
 {
-    forms::fill_shorts(lasts, shorts);
-    let method = terms.method;
-    match list_judging::judge_list(method, codes, accounts, shorts) {
-        Judged::Refused(refusal) => {
-            Writing::Refused(forms::refusal_in(Form::LastNumbers, refusal))
-        }
-        Judged::Accepted(_) => {
-            text_writing::write(Form::Shorts, terms, codes, accounts, shorts, output)
-        }
-    }
+    fill_shorts(listing.numbers, shorts);
+    let series = listing.series(shorts);
+    let judged = judge_list(listing.terms.method, &series.positions);
+    in_form(Form::LastNumbers, judged)?;
+    let changed = Listing {
+        form: Form::Shorts,
+        numbers: shorts,
+        ..*listing
+    };
+    text_writing::write(&changed, output)
 }
 
 // Changes a list from its form to the other; the numbers are made in a lent list.
-fn change_list(
-    form: Form,
-    terms: Terms,
-    codes: &[u32],
-    accounts: &[u32],
-    numbers: &[u32],
-    others: &mut [u32],
-    output: &mut [u8],
-) -> Writing
-    requires { length others.old ≡ length numbers.now }
-    ensures { WritingCall (changed_into (record { form = form; terms = terms; codes = codes.now; accounts = accounts.now; numbers = numbers.now }) (length output.old)) (writing_of result) output.old output.new }
+fn change_list(listing: &Listing, others: &mut [u32], output: &mut [u8]) -> Result<usize, Refusal>
+    requires { length others.old ≡ length listing.now.numbers.now }
+    ensures { WritingCall (changed_into (listing_of listing.now) (length output.old)) (writing_of result) output.old output.new }
 {
-    match form {
-        Form::Shorts => change_shorts(terms, codes, accounts, numbers, others, output),
-        Form::LastNumbers => change_lasts(terms, codes, accounts, numbers, others, output),
+    match listing.form {
+        Form::Shorts => change_shorts(listing, others, output),
+        Form::LastNumbers => change_lasts(listing, others, output),
     }
 }
 
 // Changes a text from its form to the other. A refusal writes nothing, and bytes past the changed text are kept.
-pub fn change(text: &[u8], output: &mut [u8]) -> Writing
+pub fn change(text: &[u8], output: &mut [u8]) -> Result<usize, Refusal>
     ensures { WritingCall (change_into text.now (length output.old)) (writing_of result) output.old output.new }
 {
+    // Three lists, as reading fills lent ones, and one for the numbers of the other form.
     let mut codes = [0u32; 1024];
     let mut accounts = [0u32; 1024];
     let mut numbers = [0u32; 1024];
     let mut others = [0u32; 1024];
-    match series_text::read(text, &mut codes, &mut accounts, &mut numbers) {
-        Reading::Refused(refusal) => Writing::Refused(refusal),
-        Reading::Series {
-            form,
-            terms,
-            positions,
-        } => change_list(
-            form,
-            terms,
-            &codes[..positions],
-            &accounts[..positions],
-            &numbers[..positions],
-            &mut others[..positions],
-            output,
-        ),
-    }
+    let read = series_text::read(text, &mut codes, &mut accounts, &mut numbers)?;
+    let n = read.positions;
+    let listing = Listing {
+        form: read.form,
+        terms: read.terms,
+        codes: &codes[..n],
+        accounts: &accounts[..n],
+        numbers: &numbers[..n],
+    };
+    change_list(&listing, &mut others[..n], output)
 }

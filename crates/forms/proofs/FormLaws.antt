@@ -7,20 +7,44 @@ use native.Mathlib.Omega.{arith}
 use lib.Dec.{eqb}
 use lib.ListN.{length, get_or}
 use borrow.Author.Tests.{ltb-false, eqb-false, eqb-true, not-false, ne_eqb}
+use Rattle.std.specs.Prelude.{Ok, Err, Result as Result·}
 use Rattle.series.specs.Results.{Result, refused, value, ◌>>=◌}
 use Rattle.series.specs.Sums.{listed}
 use Rattle.series.specs.Places.{total, before, last}
 use Rattle.series.specs.Series.{MOST_POSITIONS, MOST_CONTRACTS, ordered_by}
 use Rattle.series.specs.Refusals.{Row, first, NoneApplies, length_rows, position_rows, list_verdict}
 use Rattle.series.specs.declared.Method.{Method}
+use Rattle.series.specs.declared.Refusal.{Refusal}
+use Rattle.series.specs.Answers.{outcome_of}
 use Rattle.series.proofs.ResultLaws.{never, value_is, stepped}
 use Rattle.series.proofs.SumLaws.{total_term}
 use Rattle.series.proofs.ListLaws.{listed_elements}
 use Rattle.series.proofs.PlaceLaws.{last-total}
 use Rattle.series.proofs.RowLaws.{value_passed, value_same}
 use Rattle.series.proofs.AcceptedLaws.{list_verdict_lem, positive, or-false, positions-total}
-use Rattle.forms.specs.Forms.{Listing, differences, sums, shorts_by, series_in, number_in, in_form, list_verdict_in, last_of, other_form, other_numbers, in_other, changed}
+use Rattle.forms.specs.Forms.{Listing, differences, sums, shorts_by, series_in, number_in, in_form, InForm, list_verdict_in, last_of, other_form, other_numbers, in_other, changed}
 use Rattle.forms.specs.declared.Form.{Form}
+
+-- what a call comes to in a form, by what its value hands back
+pub in_form_is : {A B : Type 0} (g : A → B) (f : Form) (a b : Result· A Refusal) → InForm f a b → outcome_of g b ≡ in_form f (outcome_of g a)
+in_form_is g f (Ok x) b m = ap (outcome_of g) m
+in_form_is g f (Err r) (Ok x) m = absurd m
+in_form_is g f (Err r) (Err q) m = ap refused m
+
+-- with shorts a result stands as it is
+pub in_shorts : {A : Type 0} (r : Result A) → in_form Form.Shorts r ≡ r
+in_shorts (refused n) = refl
+in_shorts (value a) = refl
+
+-- judging shorts alone
+pub by_shorts : (f : Form) (m : Method) (codes accounts ns : List ℕ) → f ≡ Form.Shorts → list_verdict m codes accounts ns ≡ list_verdict_in f m codes accounts ns
+unfolding list_verdict_in
+by_shorts f m codes accounts ns e = rw e (sym (in_shorts (list_verdict m codes accounts ns)))
+
+-- judging the shorts of last numbers alone
+pub by_differences : (f : Form) (m : Method) (codes accounts ns hs : List ℕ) (b : Result ℕ) → f ≡ Form.LastNumbers → hs ≡ differences 0 ns → b ≡ in_form Form.LastNumbers (list_verdict m codes accounts hs) → b ≡ list_verdict_in f m codes accounts ns
+unfolding list_verdict_in
+by_differences f m codes accounts ns hs b e is eb = rw e (rw is at eb)
 
 pub length-differences : (b : ℕ) (ns : List ℕ) → length (differences b ns) ≡ length ns
 unfolding differences

@@ -1,14 +1,16 @@
 -- Document 02's last numbers instead of counts: a list in either form, its series, its refusals, its change.
-use Rattle.std.specs.Prelude.{ℕ, ◌+◌, ◌-◌, ◌≡◌, ◌||◌, cond, List, [], ◌∷◌, eqb, ltb, leb, length}
+use Rattle.std.specs.Prelude.{ℕ, ◌+◌, ◌-◌, ◌≡◌, ◌||◌, cond, List, [], ◌∷◌, eqb, ltb, leb, length, Ok, MatchResult, IsErrAnd, Result as Result·}
 use Rattle.series.specs.Results.{Result, refused, value, ◌>>=◌}
 use Rattle.series.specs.Series.{Series, MOST_CONTRACTS}
 use Rattle.series.specs.Refusals.{Row, ◌⟶◌∣◌, account_refused, verdict, list_verdict}
-use Rattle.series.specs.Answers.{Allocation}
+use Rattle.series.specs.Answers.{Allocation, number_of}
 use Rattle.series.specs.Call.{answer, output}
 use Rattle.series.specs.Fair.{FairOutput}
 use Rattle.series.specs.declared.Method.{Method}
 use Rattle.series.specs.declared.Terms.{Terms}
+use Rattle.series.specs.declared.Refusal.{Refusal}
 use Rattle.forms.specs.declared.Form.{Form}
+use Rattle.forms.specs.declared.Listing.{Listing as Listing·}
 
 -- a series as it is listed: in a form, and so with shorts or a last number for each position
 pub record Listing : Type 0 where
@@ -17,6 +19,10 @@ pub record Listing : Type 0 where
   pub codes : List ℕ
   pub accounts : List ℕ
   pub numbers : List ℕ
+
+-- the listing that a call is given
+abbrev pub listing_of : Listing· → Listing
+listing_of l = record { form = l.form; terms = l.terms; codes = l.codes.now; accounts = l.accounts.now; numbers = l.numbers.now }
 
 -- the differences of last numbers, the first one from the number before it; 0 where one is not above the one before
 unfoldable pub differences : ℕ → List ℕ → List ℕ
@@ -33,9 +39,13 @@ abbrev pub shorts_by : Form → List ℕ → List ℕ
 shorts_by Form.Shorts ns = ns
 shorts_by Form.LastNumbers ns = differences 0 ns
 
+-- the series of a listing with these shorts
+abbrev pub series_with : Listing → List ℕ → Series
+series_with l shorts = record { terms = l.terms; codes = l.codes; accounts = l.accounts; shorts = shorts }
+
 -- the series of a listing
 abbrev pub series_in : Listing → Series
-series_in l = record { terms = l.terms; codes = l.codes; accounts = l.accounts; shorts = shorts_by l.form l.numbers }
+series_in l = series_with l (shorts_by l.form l.numbers)
 
 -- the number of a refusal in a form: with last numbers 20 stands in the place of 6
 abbrev pub number_in : Form → ℕ → ℕ
@@ -46,6 +56,10 @@ number_in Form.LastNumbers n = cond (eqb n 6) 20 n
 abbrev pub in_form : {A : Type 0} → Form → Result A → Result A
 in_form f (refused n) = refused (number_in f n)
 in_form f (value a) = value a
+
+-- the answer b is what the answer a to a call on the shorts comes to in a form
+abbrev pub InForm : {A : Type 0} → Form → Result· A Refusal → Result· A Refusal → Type 0
+InForm f a b = MatchResult a (λ x. b ≡ Ok x) (λ r. IsErrAnd b (λ q. number_of q ≡ number_in f (number_of r)))
 
 -- judging a call: its series is judged
 unfoldable pub verdict_in : Listing → ℕ → Result ℕ

@@ -1,9 +1,8 @@
 -- What holds of `end` after i records of `last_end`: lists and numbers alone, no memory.
-use mathlib.Core.Path.{◌≡◌, refl}
+use mathlib.Core.Path.{◌≡◌}
 use mathlib.Core.List.{List, []}
 use Prim.Native.Nat.{ℕ, ◌+◌, ◌≤◌, ◌<◌, ◌^◌}
 use native.Mathlib.Numerals.{add-one}
-use native.Mathlib.Omega.{arith}
 use lib.ListN.{length, drop, get_or, drop_of_length-le}
 use lib.Seq.{drop-cons}
 use Rattle.jobs.specs.declared.Job.{Job}
@@ -15,10 +14,6 @@ pub record Seen (js : List Job) (i end : ℕ) : Type 0 where
   pub rest : last_end (drop i js) end ≡ last_end js 0
 
 module _ (js : List Job) where
-  -- before the first record
-  pub begins : Seen js 0 0
-  begins = record { fits = omega arith; rest = refl }
-
   module _ (i end : ℕ) (t : Seen js i end) where
     -- after the last record
     pub ends : length js ≤ i → end ≡ last_end js 0

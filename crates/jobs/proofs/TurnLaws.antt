@@ -1,8 +1,8 @@
 -- What holds of the records and of the output after i jobs of `run_jobs`: lists and numbers alone, no memory.
 --     Turned       the invariant: the first i records are done, the later ones are as they were, and what is left to do gives what the whole gives
---     begins, goes_on, ends    at the start, after one more job, and where every job is done
---     placed_at    the next job is in place
-use mathlib.Core.Path.{◌≡◌, refl, sym, ◌∙◌, ap}
+--     goes_on, ends    after one more job, and where every job is done
+--     placed_at        the next job is in place
+use mathlib.Core.Path.{◌≡◌, sym, ◌∙◌, ap}
 use mathlib.Core.List.{List, [], ◌∷◌, ◌++◌, append_assoc, append-nil}
 use Prim.Native.Nat.{ℕ, suc, ◌+◌, ◌≤◌, ◌<◌}
 use native.Mathlib.Numerals.{add-one}
@@ -23,9 +23,6 @@ pub record Turned (accounts shorts : List ℕ) (js : List Job) (old : List ℕ) 
   pub outs : output_after_all accounts shorts (drop i zs) os ≡ output_after_all accounts shorts js old
 
 module _ (accounts shorts : List ℕ) (js : List Job) (old : List ℕ) where
-  pub begins : Turned accounts shorts js old 0 js old
-  begins = record { sized = refl; room = refl; upto = omega arith; later = refl; jobs = refl; outs = refl }
-
   module _ (i : ℕ) (zs : List Job) (os : List ℕ) (t : Turned accounts shorts js old i zs os) where
     pub ends : length js ≤ i → JobsDone accounts shorts (lent js zs) (lent old os)
     unfolding records_after output_after_all

@@ -1,9 +1,8 @@
 -- What the functions under the call ask and promise.
 use Rattle.std.specs.Prelude.{ℕ, ◌≤◌, ◌<◌, ◌≡◌, cond, List, [], ◌∷◌, ltb, length, get_or}
 use Rattle.series.specs.Outputs.{Lent}
-use Rattle.jobs.specs.Jobs.{ending, job_answer, job_output, recorded, record_after, output_after, records_after, output_after_all}
+use Rattle.jobs.specs.Jobs.{ending, record_after, output_after, records_after, output_after_all}
 use Rattle.jobs.specs.declared.Job.{Job}
-use Rattle.jobs.specs.declared.JobAnswer.{JobAnswer}
 
 -- what stands past the last record
 abbrev pub no_job : Job
@@ -38,11 +37,6 @@ pub record InPlace (j : Job) (accounts shorts amounts : List ℕ) : Type 0 where
 -- those of all jobs do
 abbrev pub AllInPlace : List Job → List ℕ → List ℕ → List ℕ → Type 0
 AllInPlace js accounts shorts amounts = (k : ℕ) → k < length js → InPlace (get_or js k no_job) accounts shorts amounts
-
--- the call of a job on lists of its own: what its field for the answer holds then, and its output from old to new
-pub record JobCall (j : Job) (accounts shorts : List ℕ) (a : JobAnswer) (old new : List ℕ) : Type 0 where
-  pub answered : a ≡ recorded (job_answer j accounts shorts (length old)) j.answer
-  pub written : new ≡ job_output j accounts shorts old
 
 -- a job of the whole lists: its record, and the whole output from old to new
 pub record JobDone (j : Job) (accounts shorts : List ℕ) (r : Job) (old new : List ℕ) : Type 0 where

@@ -1,16 +1,21 @@
 // Many series in one call (document 02): jobs over one pair of lists, each on its own stretch of them and of the output.
 #![tactic(auto)]
 
-ghost use Rattle.std.specs.Prelude.{◌≡◌, ℕ, List};
-ghost use Rattle.series.specs.Results.{status};
+ghost use Rattle.std.specs.Prelude.{◌≡◌, ℕ, List, length};
+ghost use Rattle.series.specs.Results.{Result as Outcome};
 ghost use Rattle.series.specs.Outputs.{lent};
-ghost use Rattle.jobs.specs.Jobs.{jobs_verdict, JobsCall};
-ghost use Rattle.jobs.specs.Turns.{next_end, last_end, Measured, InPlace, AllInPlace, JobCall, JobDone, JobsDone};
+ghost use Rattle.series.specs.Answers.{Allocation, outcome_of, status_of};
+ghost use Rattle.answer_numbers.specs.Numbers.{numbers_mean, handed_numbers};
+ghost use Rattle.jobs.specs.Jobs.{jobs_verdict, job_answer, job_output, recorded, JobsCall};
+ghost use Rattle.jobs.specs.Turns.{next_end, last_end, Measured, InPlace, AllInPlace, JobDone, JobsDone};
 ghost use Rattle.jobs.specs.declared.Job.{Job as Job·};
 
 use answer_numbers::{Numbers, numbers_of};
-use series::{Contracts, Refusal, terms_of};
-use text_words::letters::Named;
+use series::{Contracts, Positions, Refusal, Series, terms_of};
+use text_words::letters::method_by;
+
+// A list has at most so many positions.
+const MOST_POSITIONS: usize = 4096;
 
 // At most so many jobs.
 const MOST_JOBS: usize = 64;
@@ -18,18 +23,18 @@ const MOST_JOBS: usize = 64;
 // An end that no list reaches: above every first position plus number of positions.
 const BEYOND: usize = 8_589_934_592;
 
-// What a job hands back: 0, T and the further number, or the number of its refusal, and then the other two are kept.
+// What a job hands back, in numbers that C reads: 0, T and the further number, or the number of its refusal, and then the other two are kept.
 #[repr(C)]
-#[derive(Clone, Copy)]
+#[derive(Clone, Copy, Debug, PartialEq, Eq)]
 pub struct JobAnswer {
     pub refusal: u32,
     pub total: u32,
     pub further: u32,
 }
 
-// One job: its first position counted from 0, its number of positions, the letter of its method, S, the draw, the increment, and a field for the answer.
+// One job, in numbers that C writes: its first position counted from 0, its number of positions, the letter of its method, S, the draw, the increment, and a field for the answer.
 #[repr(C)]
-#[derive(Clone, Copy)]
+#[derive(Clone, Copy, Debug, PartialEq, Eq)]
 pub struct Job {
     pub first: u32,
     pub positions: u32,
@@ -41,16 +46,18 @@ pub struct Job {
 }
 
 // The allocating call of a job on lists and an output of its own, with the accounts as codes.
-fn allocate_job(job: Job, accounts: &[u32], shorts: &[u32], amounts: &mut [u32]) -> JobAnswer
-    ensures { JobCall job accounts.now shorts.now result amounts.old amounts.new }
+#[tactic(auto, unfolding(crate::specs::Jobs::job_answer, crate::specs::Jobs::job_output, answer_numbers::specs::Numbers::handed_numbers))]
+fn call_job(
+    job: &Job,
+    accounts: &[u32],
+    shorts: &[u32],
+    amounts: &mut [u32],
+) -> Result<Numbers, Refusal>
+    ensures answered { numbers_mean result ≡ handed_numbers (job_answer job.now accounts.now shorts.now (length amounts.old)) }
+    ensures written { amounts.new ≡ job_output job.now accounts.now shorts.now amounts.old }
 {
-    let kept = job.answer;
-    let Named::Method(method) = text_words::letters::method_by(job.method) else {
-        return JobAnswer {
-            refusal: 14,
-            total: kept.total,
-            further: kept.further,
-        };
+    let Some(method) = method_by(job.method) else {
+        return Err(Refusal::UnknownMethod);
     };
     let terms = terms_of(
         method,
@@ -58,17 +65,29 @@ fn allocate_job(job: Job, accounts: &[u32], shorts: &[u32], amounts: &mut [u32])
         job.draw,
         Contracts(job.increment),
     );
-    let answer = allocation::allocate(terms, accounts, accounts, shorts, amounts);
-    match numbers_of(answer) {
-        Numbers::Allocated { total, further } => JobAnswer {
+    let positions = Positions {
+        codes: accounts,
+        accounts,
+        shorts,
+    };
+    let series = Series { terms, positions };
+    numbers_of(allocation::allocate(&series, amounts))
+}
+
+// What the field for the answer holds after a call; a refusal keeps T and the further number that stood there.
+#[tactic(auto, unfolding(crate::specs::Jobs::recorded, answer_numbers::specs::Numbers::handed_numbers))]
+fn recorded(kept: JobAnswer, outcome: Result<Numbers, Refusal>) -> JobAnswer
+    ensures { (a : Outcome Allocation) → numbers_mean outcome ≡ handed_numbers a → result ≡ recorded a kept }
+{
+    match outcome {
+        Ok(numbers) => JobAnswer {
             refusal: 0,
-            total,
-            further,
+            total: numbers.total,
+            further: numbers.further,
         },
-        Numbers::Refused(refusal) => JobAnswer {
-            refusal,
-            total: kept.total,
-            further: kept.further,
+        Err(refusal) => JobAnswer {
+            refusal: u32::from(refusal),
+            ..kept
         },
     }
 }
@@ -80,15 +99,16 @@ fn run_job(accounts: &[u32], shorts: &[u32], job: Job, amounts: &mut [u32]) -> J
 {
     let first = job.first as usize;
     let end = first + job.positions as usize;
-    let answer = allocate_job(
-        job,
+    let outcome = call_job(
+        &job,
         &accounts[first..end],
         &shorts[first..end],
         &mut amounts[first..end],
     );
-    let mut done = job;
-    done.answer = answer;
-    done
+    Job {
+        answer: recorded(job.answer, outcome),
+        ..job
+    }
 }
 
 // Every job in turn.
@@ -96,12 +116,8 @@ fn run_jobs(accounts: &[u32], shorts: &[u32], jobs: &mut [Job], amounts: &mut [u
     requires { AllInPlace jobs.old accounts.now shorts.now amounts.old }
     ensures { JobsDone accounts.now shorts.now (lent jobs.old jobs.new) (lent amounts.old amounts.new) }
 {
-    let mut i = 0;
-    while i < jobs.len() {
-        let job = jobs[i];
-        let done = run_job(accounts, shorts, job, &mut *amounts);
-        jobs[i] = done;
-        i += 1;
+    for job in jobs.iter_mut() {
+        *job = run_job(accounts, shorts, *job, amounts);
     }
 }
 
@@ -117,50 +133,58 @@ fn next_end(job: Job, end: usize) -> usize
 }
 
 // Where the last stretch ends; beyond every list where one begins before the previous one ended.
+#[tactic(auto, using(crate::proofs::Ends::goes_on, crate::proofs::Ends::ends))]
 fn last_end(jobs: &[Job]) -> usize
     ensures { result ≡ last_end jobs.now 0 }
 {
     let mut end = 0;
-    let mut i = 0;
-    while i < jobs.len() {
-        let job = jobs[i];
-        end = next_end(job, end);
-        i += 1;
+    for job in jobs {
+        end = next_end(*job, end);
     }
     end
 }
 
-// The refusals before any job, by the lengths and the end of the last stretch: 0 for none.
-fn judge(accounts: usize, shorts: usize, amounts: usize, jobs: usize, end: usize) -> u32
-    ensures { (given held : List ℕ) (js : List Job·) → Measured given held js accounts shorts jobs end → result ≡ status (jobs_verdict given held js amounts) }
+// The refusals before any job, by the lengths and the end of the last stretch.
+#[tactic(auto, using(crate::proofs::JudgeLaws::laid_by_end, std::proofs::lemmas::Bool::Decides::nat_tests), unfolding(crate::specs::Jobs::jobs_verdict, crate::specs::Jobs::jobs_rows, series::specs::Refusals::first))]
+fn judge(
+    accounts: usize,
+    shorts: usize,
+    amounts: usize,
+    jobs: usize,
+    end: usize,
+) -> Result<(), Refusal>
+    ensures { (given held : List ℕ) (js : List Job·) → Measured given held js accounts shorts jobs end → outcome_of (λ _. tt) result ≡ jobs_verdict given held js amounts }
 {
     if accounts != shorts {
-        return series::number(Refusal::LengthsDiffer);
+        return Err(Refusal::LengthsDiffer);
     }
-    if 4096 < shorts {
-        return series::number(Refusal::TooManyPositions);
+    if MOST_POSITIONS < shorts {
+        return Err(Refusal::TooManyPositions);
     }
     if amounts < shorts {
-        return series::number(Refusal::OutputTooShort);
+        return Err(Refusal::OutputTooShort);
     }
     if MOST_JOBS < jobs {
-        return series::number(Refusal::TooManyJobs);
+        return Err(Refusal::TooManyJobs);
     }
     if shorts < end {
-        return series::number(Refusal::StretchMisplaced);
+        return Err(Refusal::StretchMisplaced);
     }
-    0
+    Ok(())
 }
 
 // Allocates every job, or refuses before any: then records and amounts are kept.
-pub fn allocate_jobs(accounts: &[u32], shorts: &[u32], jobs: &mut [Job], amounts: &mut [u32]) -> u32
-    ensures { JobsCall accounts.now shorts.now result (lent jobs.old jobs.new) (lent amounts.old amounts.new) }
+#[tactic(auto, using(crate::proofs::JobsCallLaws::in_place, crate::proofs::JobsCallLaws::answers))]
+pub fn allocate_jobs(
+    accounts: &[u32],
+    shorts: &[u32],
+    jobs: &mut [Job],
+    amounts: &mut [u32],
+) -> Result<(), Refusal>
+    ensures { JobsCall accounts.now shorts.now (status_of result) (lent jobs.old jobs.new) (lent amounts.old amounts.new) }
 {
-    let end = last_end(&*jobs);
-    let refusal = judge(accounts.len(), shorts.len(), amounts.len(), jobs.len(), end);
-    if refusal != 0 {
-        return refusal;
-    }
+    let end = last_end(jobs);
+    judge(accounts.len(), shorts.len(), amounts.len(), jobs.len(), end)?;
     run_jobs(accounts, shorts, jobs, amounts);
-    0
+    Ok(())
 }

@@ -2,12 +2,11 @@
 use Prim.Native.Nat.{ℕ, ◌≤◌}
 use mathlib.Core.Path.{◌≡◌, sym, ap, ap₂, ◌∙◌}
 use mathlib.Core.List.{List, ◌++◌}
-use native.Mathlib.Omega.{arith}
 use lib.ListN.{length, take, drop}
 use lib.Seq.{length-take-le}
 use Rattle.series.specs.Results.{Result, refused, value}
 use Rattle.series.specs.Outputs.{onto}
-use Rattle.series.specs.Series.{Series, method, exercised}
+use Rattle.series.specs.Series.{Series, method, held}
 use Rattle.series.specs.Refusals.{NoneApplies, then_draw_rows, verdict}
 use Rattle.series.specs.Answers.{Allocation}
 use Rattle.series.specs.Call.{further, answer, output}
@@ -16,7 +15,6 @@ use Rattle.series.specs.declared.Method.{Method}
 use Rattle.series.proofs.AcceptedLaws.{IncrementFacts, Facts, accepted_facts, verdict_accepted}
 use Rattle.series.proofs.CallLaws.{verdict-total, verdict-room, draw_passes}
 use Rattle.series.proofs.Demand3.{length-assigned, call_fair}
-use Rattle.judging.specs.Judged.{JudgedSeries}
 use Rattle.judging.specs.Assigning.{Assigns}
 
 -- the whole call
@@ -35,19 +33,15 @@ module _ (s : Series) (old : List ℕ) where
     pub fits : length s.shorts ≤ length old
     fits = verdict-room s (length old) T (sym v)
 
-    pub call_requires : JudgedSeries s.shorts T (exercised s) (take (length s.shorts) old) × NoneApplies (then_draw_rows s.terms T (length s.shorts))
-    call_requires =
-        let eT = verdict-total s (length old) T (sym v) in (
-          record {
-            room = length-take-le (length s.shorts) old fits;
-            few = facts.few;
-            sum = sym eT;
-            small = omega (arith, facts.total_most);
-            some = facts.exercised_some;
-            most = omega (arith, facts.exercised_most);
-          },
-          rw (← eT) (draw_passes s (length old) T (sym v)),
-        )
+    pub room : length (take (length s.shorts) old) ≡ length s.shorts
+    room = length-take-le (length s.shorts) old fits
+
+    -- what a judged list has
+    pub call_list : Facts s × (T ≡ held s)
+    call_list = (facts, sym (verdict-total s (length old) T (sym v)))
+
+    pub call_draw : NoneApplies (then_draw_rows s.terms T (length s.shorts))
+    call_draw = rw (← verdict-total s (length old) T (sym v)) (draw_passes s (length old) T (sym v))
 
     -- under W what the judged series has of its increment
     pub call_increment : method s ≡ Method.Wheel → IncrementFacts s

@@ -1,27 +1,17 @@
--- An account that is looked up, and a list that is judged alone.
+-- A list that is judged alone.
 use Prim.Native.Nat.{ℕ}
 use mathlib.Core.Path.{◌≡◌, sym, ap, ◌∙◌}
-use mathlib.Core.Bool.{true}
 use mathlib.Core.List.{List, [], ◌++◌}
 use native.Mathlib.Nat.{le_refl}
 use lib.ListN.{length}
-use borrow.Author.Tests.{le-ltb, eq-eqb, ne_eqb}
+use borrow.Author.Tests.{le-ltb}
 use Rattle.series.specs.Results.{Result, ◌>>=◌}
 use Rattle.series.specs.Places.{total}
 use Rattle.series.specs.Series.{ordered_by}
-use Rattle.series.specs.Refusals.{Row, ◌⟶◌∣◌, first, length_rows, room_rows, stands_in, account_refused, position_rows, list_rows, list_verdict, list_verdict_for}
+use Rattle.series.specs.Refusals.{Row, ◌⟶◌∣◌, first, length_rows, room_rows, position_rows, list_rows, list_verdict, list_verdict_for}
 use Rattle.series.specs.declared.Method.{Method}
 use Rattle.series.proofs.AcceptedLaws.{list_verdict_lem}
 use Rattle.series.proofs.RowLaws.{first-append}
-
--- under W account 0 is refused, and any other is looked up
-pub no_account : (a : ℕ) (before : List ℕ) → a ≡ 0 → account_refused Method.Wheel before a ≡ true
-unfolding account_refused
-no_account a before e = rw (eq-eqb a 0 e)
-
-pub looked_up : (a : ℕ) (before : List ℕ) → (a ≡ 0 → ⊥) → stands_in a before ≡ account_refused Method.Wheel before a
-unfolding account_refused
-looked_up a before some = rw (ne_eqb a 0 some)
 
 -- a list is judged with an output of its own length
 pub judged_list : (m : Method) (codes accounts shorts : List ℕ) (v : Result ℕ) → v ≡ list_verdict_for m (ordered_by m codes accounts) accounts shorts (length shorts) → v ≡ list_verdict m codes accounts shorts

@@ -1,6 +1,7 @@
 -- Accounts in chains, by which is found whether an account stands earlier in a list.
 use Rattle.std.specs.Prelude.{ℕ, zero, suc, ◌*◌, ◌/◌, ◌%◌, ◌≤◌, ◌<◌, ◌≡◌, cond, List, eqb, length, get_or}
 use Rattle.series.specs.Series.{MOST_POSITIONS}
+use Rattle.list_judging.specs.declared.chains.Chains.{Chains as Chains·}
 
 -- the bucket of an account, one of 4,096: the upper twelve bits of a product, since accounts often share their low bits
 unfoldable pub bucket : ℕ → ℕ
@@ -20,5 +21,5 @@ pub record Chains (bucketOf f : ℕ → ℕ) (head next : List ℕ) (i : ℕ) : 
   pub nexts : (j : ℕ) → j < i → get_or next j 0 ≡ last_in bucketOf f (bucketOf (f j)) j
 
 -- the accounts before position i are linked
-abbrev pub Linked : List ℕ → List ℕ → List ℕ → ℕ → Type 0
-Linked accounts head next i = Chains bucket (λ j. get_or accounts j 0) head next i
+abbrev pub Linked : List ℕ → Chains· → ℕ → Type 0
+Linked accounts c i = Chains bucket (λ j. get_or accounts j 0) c.head c.next i

@@ -1,4 +1,4 @@
-// Judging a list, in the order of document 01's table, with document 02's 19: T, or the first refusal that applies. While its accounts rise it is judged by the crate rising_lists, whose `Judged` and `judge_by_account` are handed on.
+// Judging a list, in the order of document 01's table, with document 02's 19: T, or the first refusal that applies. While its accounts rise it is judged by the crate rising_lists, whose `judge_by_account` is handed on.
 #![tactic(auto)]
 
 mod chains;
@@ -11,97 +11,67 @@ ghost use Rattle.rising_lists.specs.Judged.{judged_of, EvenList};
 ghost use Rattle.rising_lists.specs.Earlier.{earlier};
 ghost use Rattle.list_judging.specs.Chains.{Linked};
 
-use crate::chains::{link, stands_earlier};
-pub use rising_lists::{Judged, judge_by_account};
-use rising_lists::{Walk, is_refused, judge_rows, refuse_shorts};
-use series::{Contracts, Method, Refusal};
+use crate::chains::Chains;
+pub use rising_lists::judge_by_account;
+use rising_lists::{MOST_CONTRACTS, judge_rows, judge_shorts};
+use series::{Contracts, Method, Positions, Refusal};
 
 // Whether the account of a position is 0 or stands earlier in the list.
-fn is_account_refused(
-    accounts: &[u32],
-    position: usize,
-    head: &[u16; 4096],
-    next: &[u16; 4096],
-) -> bool
-    requires { (position < length accounts.now) × Linked accounts.now head.now next.now position }
+#[tactic(auto, using(std::proofs::lemmas::Bool::Decides::nat_tests), unfolding(series::specs::Refusals::account_refused))]
+fn is_account_refused(chains: &Chains, accounts: &[u32], position: usize) -> bool
+    requires { (position < length accounts.now) × Linked accounts.now chains.now position }
     ensures { result ≡ account_refused Method·.Wheel (earlier accounts.now position) (get_or accounts.now position 0) }
 {
-    if accounts[position] == 0 {
-        return true;
-    }
-    stands_earlier(accounts, position, head, next)
+    accounts[position] == 0 || chains.stands_earlier(accounts, position)
 }
 
 // The list under W, each position in turn, its accounts in any order: they are looked up in chains.
-fn judge_chained(
-    codes: &[u32],
-    accounts: &[u32],
-    shorts: &[u32],
-    head: &mut [u16; 4096],
-    next: &mut [u16; 4096],
-) -> Judged
-    requires { EvenList codes.now accounts.now shorts.now × Linked accounts.now head.old next.old 0 }
-    ensures { judged_of result ≡ positions_verdict Method·.Wheel codes.now accounts.now shorts.now }
+fn judge_chained(positions: &Positions) -> Result<Contracts, Refusal>
+    requires { EvenList positions.now.codes.now positions.now.accounts.now positions.now.shorts.now }
+    ensures { judged_of result ≡ positions_verdict Method·.Wheel positions.now.codes.now positions.now.accounts.now positions.now.shorts.now }
 {
+    let mut chains = Chains::new();
     let mut before = 0;
-    let mut left = 10_000_000;
-    let mut i = 0;
-    while i < shorts.len() {
-        let code = codes[i];
-        let count = shorts[i];
-        let repeated = is_account_refused(accounts, i, head, next);
+    let mut left = MOST_CONTRACTS;
+    for (i, &count) in positions.shorts.iter().enumerate() {
+        let code = positions.codes[i];
+        let repeated = is_account_refused(&chains, positions.accounts, i);
         if code <= before {
-            return Judged::Refused(Refusal::OutOfOrder);
+            return Err(Refusal::OutOfOrder);
         }
         if repeated {
-            return Judged::Refused(Refusal::AccountRepeated);
+            return Err(Refusal::AccountRepeated);
         }
-        if is_refused(count, left) {
-            return Judged::Refused(refuse_shorts(count));
-        }
-        link(accounts, i, head, next);
+        left = judge_shorts(count, left)?;
+        chains.link(positions.accounts, i);
         before = code;
-        left -= count;
-        i += 1;
     }
-    Judged::Accepted(Contracts(10_000_000 - left))
-}
-
-// The list under W, its accounts in any order, with chains of its own.
-fn judge_distinct(codes: &[u32], accounts: &[u32], shorts: &[u32]) -> Judged
-    requires { EvenList codes.now accounts.now shorts.now }
-    ensures { judged_of result ≡ positions_verdict Method·.Wheel codes.now accounts.now shorts.now }
-{
-    let mut head = [0u16; 4096];
-    let mut next = [0u16; 4096];
-    judge_chained(codes, accounts, shorts, &mut head, &mut next)
+    Ok(Contracts(MOST_CONTRACTS - left))
 }
 
 // The list under W: it rises by its codes, and its accounts are looked up where they do not rise.
-fn judge_by_code(codes: &[u32], accounts: &[u32], shorts: &[u32], room: usize) -> Judged
-    ensures { judged_of result ≡ list_verdict_for Method·.Wheel codes.now accounts.now shorts.now room }
+fn judge_by_code(positions: &Positions, room: usize) -> Result<Contracts, Refusal>
+    ensures { judged_of result ≡ list_verdict_for Method·.Wheel positions.now.codes.now positions.now.accounts.now positions.now.shorts.now room }
 {
-    match judge_rows(codes, accounts, shorts, room) {
-        Walk::Judged(judged) => judged,
-        Walk::Falls => judge_distinct(codes, accounts, shorts),
+    match judge_rows(positions, room)? {
+        Some(total) => Ok(total),
+        None => judge_chained(positions),
     }
 }
 
 // Judges a list by its method, also against room, the length of an output.
-pub fn judge(method: Method, codes: &[u32], accounts: &[u32], shorts: &[u32], room: usize) -> Judged
-    ensures { judged_of result ≡ list_verdict_for method (ordered_by method codes.now accounts.now) accounts.now shorts.now room }
+pub fn judge(method: Method, positions: &Positions, room: usize) -> Result<Contracts, Refusal>
+    ensures { judged_of result ≡ list_verdict_for method (ordered_by method positions.now.codes.now positions.now.accounts.now) positions.now.accounts.now positions.now.shorts.now room }
 {
     match method {
-        Method::Wheel => judge_by_code(codes, accounts, shorts, room),
-        Method::ProRata => judge_by_account(accounts, shorts, room),
-        Method::Lottery => judge_by_account(accounts, shorts, room),
-        Method::RemainderDraw => judge_by_account(accounts, shorts, room),
+        Method::Wheel => judge_by_code(positions, room),
+        _ => judge_by_account(positions.accounts, positions.shorts, room),
     }
 }
 
 // Judges a list alone, with no output, S or draw.
-pub fn judge_list(method: Method, codes: &[u32], accounts: &[u32], shorts: &[u32]) -> Judged
-    ensures { judged_of result ≡ list_verdict method codes.now accounts.now shorts.now }
+pub fn judge_list(method: Method, positions: &Positions) -> Result<Contracts, Refusal>
+    ensures { judged_of result ≡ list_verdict method positions.now.codes.now positions.now.accounts.now positions.now.shorts.now }
 {
-    judge(method, codes, accounts, shorts, shorts.len())
+    judge(method, positions, positions.shorts.len())
 }

@@ -1,20 +1,17 @@
--- What a judged list has, and the merged list's rows as the code tries them.
-use Prim.Native.Nat.{ℕ, ◌+◌, ◌≤◌, ◌<◌}
+-- What a judged list has, and two lists judged one after the other.
+use Prim.Native.Nat.{ℕ, ◌+◌, ◌<◌}
 use mathlib.Core.Path.{◌≡◌, refl, sym, ◌∙◌}
-use mathlib.Core.Bool.{true, false, ◌||◌}
 use mathlib.Core.List.{List, [], ◌++◌}
 use native.Mathlib.Omega.{arith}
-use lib.Dec.{ltb}
 use lib.ListN.{length}
-use borrow.Author.Tests.{lt-ltb, le-ltb, ltb-false, eqb-true, eqb-false, not-false}
+use borrow.Author.Tests.{ltb-false, eqb-true, eqb-false, not-false}
 use Rattle.series.specs.Results.{refused, value}
 use Rattle.series.specs.Places.{total}
-use Rattle.series.specs.Series.{MOST_POSITIONS, MOST_CONTRACTS}
-use Rattle.series.specs.Refusals.{Row, first, NoneApplies, length_rows, position_rows}
+use Rattle.series.specs.Refusals.{Row, NoneApplies, length_rows, position_rows}
 use Rattle.series.specs.declared.Method.{Method}
 use Rattle.series.proofs.AcceptedLaws.{or-false, positive, list_verdict_lem, positions-total}
-use Rattle.series.proofs.RowLaws.{row_at, refused-at, passed_value, value_passed, value_same, passed_append}
-use Rattle.merging.specs.Merging.{Position, PositionList, shorts_of, judged_alone, merged_rows}
+use Rattle.series.proofs.RowLaws.{value_passed, value_same, passed_append}
+use Rattle.merging.specs.Merging.{PositionList, judged_alone}
 use Rattle.merging.specs.Walks.{judged_both, Bounded}
 
 -- ---- a list that meets no refusal
@@ -59,42 +56,3 @@ module _ (one two : PositionList) where
   pub both_judged : (T U : ℕ) → judged_alone one ≡ value T → judged_alone two ≡ value U → value (T + U) ≡ judged_both one two
   unfolding judged_both
   both_judged T U e f = rw (e, f) refl
-
--- ---- the merged list's rows
-
-module _ (ps : List Position) (accountsRoom shortsRoom : ℕ) where
-  abbrev rows : List Row
-  rows = merged_rows ps accountsRoom shortsRoom
-
-  pub refused_many : MOST_POSITIONS < length ps → first rows ps ≡ refused 2
-  unfolding merged_rows NoneApplies row_at
-  refused_many h = refused-at 0 rows ps tt (lt-ltb MOST_POSITIONS (length ps) h)
-
-  module _ (few : length ps ≤ MOST_POSITIONS) where
-    two : ltb MOST_POSITIONS (length ps) ≡ false
-    two = le-ltb MOST_POSITIONS (length ps) few
-
-    pub refused-total : MOST_CONTRACTS < total (shorts_of ps) → first rows ps ≡ refused 7
-    unfolding merged_rows NoneApplies row_at
-    refused-total h = refused-at 1 rows ps (two, tt) (lt-ltb MOST_CONTRACTS (total (shorts_of ps)) h)
-
-    module _ (small : total (shorts_of ps) ≤ MOST_CONTRACTS) where
-      seven : ltb MOST_CONTRACTS (total (shorts_of ps)) ≡ false
-      seven = le-ltb MOST_CONTRACTS (total (shorts_of ps)) small
-
-      refused-room : (ltb accountsRoom (length ps) || ltb shortsRoom (length ps)) ≡ true → first rows ps ≡ refused 4
-      unfolding merged_rows NoneApplies row_at
-      refused-room e = refused-at 2 rows ps (two, (seven, tt)) e
-
-      pub refused-accounts : accountsRoom < length ps → first rows ps ≡ refused 4
-      refused-accounts h = refused-room (rw (lt-ltb accountsRoom (length ps) h))
-
-      module _ (fits : length ps ≤ accountsRoom) where
-        pub refused-shorts : shortsRoom < length ps → first rows ps ≡ refused 4
-        refused-shorts h = refused-room (rw (le-ltb accountsRoom (length ps) fits, lt-ltb shortsRoom (length ps) h))
-
-        pub none_refused : length ps ≤ shortsRoom → first rows ps ≡ value ps
-        unfolding merged_rows NoneApplies
-        none_refused h =
-            let four : (ltb accountsRoom (length ps) || ltb shortsRoom (length ps)) ≡ false = rw (le-ltb accountsRoom (length ps) fits, le-ltb shortsRoom (length ps) h) in
-            passed_value rows ps (two, (seven, (four, tt)))

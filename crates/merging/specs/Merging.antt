@@ -1,13 +1,15 @@
 -- Merged lists (document 02): two lists of one series, both rising by account, into one.
-use Rattle.std.specs.Prelude.{ℕ, ◌+◌, ◌≡◌, ◌||◌, cond, List, [], ◌∷◌, map, ltb, length}
-use Rattle.series.specs.Results.{Result, refused, value, ◌>>=◌, after}
+use Rattle.std.specs.Prelude.{ℕ, ◌+◌, ◌≡◌, ◌||◌, cond, List, [], ◌∷◌, map, ltb, length, Result as Result·}
+use Rattle.series.specs.Results.{Result, value, ◌>>=◌, after}
 use Rattle.series.specs.Outputs.{onto, Lent}
 use Rattle.series.specs.Places.{total}
 use Rattle.series.specs.Series.{MOST_POSITIONS, MOST_CONTRACTS}
 use Rattle.series.specs.Refusals.{Row, ◌⟶◌∣◌, first, list_verdict}
-use Rattle.series.specs.Answers.{number_of}
+use Rattle.series.specs.Answers.{outcome_of}
 use Rattle.series.specs.declared.Method.{Method}
-use Rattle.merging.specs.declared.Merging.{Merging}
+use Rattle.series.specs.declared.Refusal.{Refusal}
+use Rattle.merging.specs.declared.AccountList.{AccountList}
+use Rattle.merging.specs.declared.Merged.{Merged}
 
 -- a position: an account and its short contracts
 pub record Position : Type 0 where
@@ -22,6 +24,10 @@ pub record PositionList : Type 0 where
 -- the list with these accounts and shorts
 abbrev pub list_of : List ℕ → List ℕ → PositionList
 list_of accounts shorts = record { accounts = accounts; shorts = shorts }
+
+-- the list that a call is given
+abbrev pub account_list_of : AccountList → PositionList
+account_list_of l = list_of l.accounts.now l.shorts.now
 
 -- the positions of accounts and the shorts beside them
 unfoldable pub paired : List ℕ → List ℕ → List Position
@@ -92,10 +98,9 @@ handed r = do
   ps ← r
   value (record { positions = length ps; total = total (shorts_of ps) })
 
--- what each answer of the call hands back
-abbrev pub merging_of : Merging → Result Handed
-merging_of (Merging.Merged n T) = value (record { positions = n; total = T.0 })
-merging_of (Merging.Refused r) = refused (number_of r)
+-- what merging comes to: what it hands back, or the number of the refusal
+abbrev pub merging_of : Result· Merged Refusal → Result Handed
+merging_of r = outcome_of (λ m. record { positions = m.positions; total = m.total.0 }) r
 
 -- the outputs of a call that comes to r: the merged list and what stood past it, or all that stood there
 pub record ListsMerged (r : Result (List Position)) (accounts shorts : Lent (List ℕ)) : Type 0 where

@@ -1,5 +1,5 @@
 -- Pro rata: what its functions ask and promise.
-use Rattle.std.specs.Prelude.{ℕ, ◌+◌, ◌*◌, ◌≤◌, ◌<◌, ◌≡◌, List, length, get_or}
+use Rattle.std.specs.Prelude.{ℕ, ◌+◌, ◌*◌, ◌≤◌, ◌<◌, ◌≡◌, List, length, get_or, Some, None, Option as Option·}
 use Rattle.std.proofs.Math.Option.{Option, none, some, map}
 use Rattle.series.specs.Series.{MOST_CONTRACTS, MOST_POSITIONS}
 use Rattle.series.specs.Sums.{sum_below, listed}
@@ -7,7 +7,6 @@ use Rattle.series.specs.ProRata.{round_one, decimals, larger, equal}
 use Rattle.pro_rata.specs.declared.rounds.Percentage.{Percentage}
 use Rattle.pro_rata.specs.declared.rounds.RoundTwo.{RoundTwo}
 use Rattle.pro_rata.specs.declared.rounds.Cutoff.{Cutoff}
-use Rattle.pro_rata.specs.declared.rounds.Cutoff.TheVariants.{At, Nothing}
 
 -- S of T contracts, T at most 10,000,000
 pub record Exercised (S T : ℕ) : Type 0 where
@@ -50,10 +49,10 @@ pub record Counted : Type 0 where
 abbrev pub counted : (ℕ → ℕ) → ℕ → Option ℕ → Option Counted
 counted d n = map (λ c. record { cut = c; above = larger d c n; tied = equal d c n })
 
--- what each answer of the search hands back
-abbrev pub cut_off_of : Cutoff → Option Counted
-cut_off_of (At c l g) = some (record { cut = c; above = l; tied = g })
-cut_off_of Nothing = none
+-- what the search hands back
+abbrev pub cut_off_of : Option· Cutoff → Option Counted
+cut_off_of (Some c) = some (record { cut = c.cut; above = c.larger; tied = c.tied })
+cut_off_of None = none
 
 -- the round begins with one of the tied positions and serves no more than them
 pub record Serving (r : RoundTwo) : Type 0 where

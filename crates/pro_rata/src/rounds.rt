@@ -1,11 +1,11 @@
 // The two rounds: round one assigns whole parts, round two one contract to a position by decimal parts.
-ghost use Rattle.std.specs.Prelude.{◌≡◌, ◌+◌, ◌≤◌, ◌<◌, ltb, length};
+ghost use Rattle.std.specs.Prelude.{◌≡◌, ◌+◌, ◌*◌, ◌^◌, ◌≤◌, ◌<◌, ltb, length};
 ghost use Rattle.series.specs.Series.{MOST_CONTRACTS, MOST_POSITIONS};
 ghost use Rattle.series.specs.ProRata.{percentage, whole_part, decimal_part, remainder, turn, round_two, pro_rata};
 ghost use Rattle.series.specs.CutOff.{at_least, cut_off, at_cut_off, by_cut_off};
-ghost use Rattle.judging.specs.Judged.{JudgedSeries};
 ghost use Rattle.pro_rata.specs.Rounds.{Exercised, units, HighLow, RoundOneDone, at, Decimals, counted, cut_off_of, Serving, RoomForOne, Servable, added};
 
+use judging::JudgedList;
 use series::Contracts;
 
 // The exercise percentage in units of the 17th decimal: high * 10^12 + low.
@@ -52,25 +52,17 @@ impl Percentage {
 }
 
 // Round one: writes each position's whole part and its decimal part, and hands back the contracts assigned.
-pub fn round_one(
-    shorts: &[u32],
-    total: Contracts,
-    exercised: Contracts,
-    amounts: &mut [u32],
-    parts: &mut [u32],
-) -> Contracts
-    requires { JudgedSeries shorts.now total.0 exercised.0 amounts.old × (length parts.old ≡ length shorts.now) }
-    ensures { RoundOneDone shorts.now exercised.0 result.0 amounts.new parts.new }
+pub fn round_one(list: &JudgedList, amounts: &mut [u32], parts: &mut [u32]) -> Contracts
+    requires { (length amounts.old ≡ length list.now.shorts.now) × (length parts.old ≡ length list.now.shorts.now) }
+    ensures { RoundOneDone list.now.shorts.now list.now.exercised.0 result.0 amounts.new parts.new }
 {
-    let percentage = Percentage::of(exercised, total);
+    let percentage = Percentage::of(list.exercised, list.total);
     let mut sum = 0u32;
-    let mut i = 0;
-    while i < shorts.len() {
-        let assignment = percentage.assignment(Contracts(shorts[i]));
+    for (i, &count) in list.shorts.iter().enumerate() {
+        let assignment = percentage.assignment(Contracts(count));
         amounts[i] = assignment.whole;
         parts[i] = assignment.decimal;
         sum += assignment.whole;
-        i += 1;
     }
     Contracts(sum)
 }
@@ -81,36 +73,36 @@ pub fn at_least(parts: &[u32], x: u32) -> u32
     ensures { result ≡ at_least (at parts.now) x (length parts.now) }
 {
     let mut count = 0u32;
-    let mut i = 0;
-    while i < parts.len() {
-        if x <= parts[i] {
+    for &part in parts {
+        if x <= part {
             count += 1;
         }
-        i += 1;
     }
     count
 }
 
 // The cut-off: the decimal part at which the remainder runs out, how many positions have a larger one, and how many this one.
 #[derive(Clone, Copy)]
-pub enum Cutoff {
-    At { cut: u32, larger: u32, tied: u32 },
-    Nothing,
+pub struct Cutoff {
+    cut: u32,
+    larger: u32,
+    tied: u32,
 }
 
 // Bisects the decimal parts: at least `left` positions have `low` or more, and fewer, `larger`, have `low + width` or more.
-pub fn cut_off(parts: &[u32], remainder: Contracts) -> Cutoff
+pub fn cut_off(parts: &[u32], remainder: Contracts) -> Option<Cutoff>
     requires { Decimals parts.now remainder.0 }
     ensures { cut_off_of result ≡ counted (at parts.now) (length parts.now) (cut_off (at parts.now) (length parts.now) remainder.0) }
 {
     let left = remainder.0;
     if left == 0 {
-        return Cutoff::Nothing;
+        return None;
     }
     let mut low = 0u32;
     let mut width = 100_000u32;
     let mut enough = parts.len() as u32;
     let mut larger = 0u32;
+    // A `while`: it halves a width, and goes through no list.
     while 1 < width {
         let half = width / 2;
         let count = at_least(parts, low + half);
@@ -123,12 +115,11 @@ pub fn cut_off(parts: &[u32], remainder: Contracts) -> Cutoff
             larger = count;
         }
     }
-    let tied = enough - larger;
-    Cutoff::At {
+    Some(Cutoff {
         cut: low,
         larger,
-        tied,
-    }
+        tied: enough - larger,
+    })
 }
 
 // Round two by the cut-off: `served` of the `tied` positions get a contract, beginning with number `first` + 1.
@@ -178,14 +169,11 @@ pub fn serve(parts: &[u32], round: RoundTwo, amounts: &mut [u32])
 {
     let cut = round.cut;
     let mut number = 0u32;
-    let mut i = 0;
-    while i < parts.len() {
-        let part = parts[i];
+    for (i, &part) in parts.iter().enumerate() {
         amounts[i] += round.contract(part, number).0;
         if part == cut {
             number += 1;
         }
-        i += 1;
     }
 }
 
@@ -194,7 +182,7 @@ pub fn round_two(parts: &[u32], remainder: Contracts, draw: u32, amounts: &mut [
     requires { Decimals parts.now remainder.0 × RoomForOne parts.now amounts.old }
     ensures { amounts.new ≡ added amounts.old (round_two (at parts.now) (length parts.now) draw remainder.0) }
 {
-    let Cutoff::At { cut, larger, tied } = cut_off(parts, remainder) else {
+    let Some(Cutoff { cut, larger, tied }) = cut_off(parts, remainder) else {
         return;
     };
     let round = RoundTwo {
@@ -208,40 +196,39 @@ pub fn round_two(parts: &[u32], remainder: Contracts, draw: u32, amounts: &mut [
 
 // Both rounds, with room for the decimal parts.
 pub fn both_rounds(
-    shorts: &[u32],
-    total: Contracts,
-    exercised: Contracts,
+    list: &JudgedList,
     draw: u32,
     amounts: &mut [u32],
     parts: &mut [u32],
 ) -> Contracts
-    requires { JudgedSeries shorts.now total.0 exercised.0 amounts.old × (length parts.old ≡ length shorts.now) }
-    ensures handed { result.0 ≡ remainder shorts.now exercised.0 }
-    ensures written { amounts.new ≡ pro_rata shorts.now exercised.0 draw }
+    requires { (length amounts.old ≡ length list.now.shorts.now) × (length parts.old ≡ length list.now.shorts.now) }
+    ensures handed { result.0 ≡ remainder list.now.shorts.now list.now.exercised.0 }
+    ensures written { amounts.new ≡ pro_rata list.now.shorts.now list.now.exercised.0 draw }
 {
-    let assigned = round_one(shorts, total, exercised, amounts, parts);
-    let remainder = Contracts(exercised.0 - assigned.0);
+    let assigned = round_one(list, amounts, parts);
+    let remainder = Contracts(list.exercised.0 - assigned.0);
     round_two(parts, remainder, draw, amounts);
     remainder
 }
 
-// The amounts under pro rata, in list order; hands back the contracts of round two. A short list has a short room for its decimal parts.
-pub fn assign(
-    shorts: &[u32],
-    total: Contracts,
-    exercised: Contracts,
-    draw: u32,
-    amounts: &mut [u32],
-) -> Contracts
-    requires { JudgedSeries shorts.now total.0 exercised.0 amounts.old }
-    ensures handed { result.0 ≡ remainder shorts.now exercised.0 }
-    ensures written { amounts.new ≡ pro_rata shorts.now exercised.0 draw }
+// Both rounds, with room for N decimal parts.
+fn with_room<const N: usize>(list: &JudgedList, draw: u32, amounts: &mut [u32]) -> Contracts
+    requires { (length amounts.old ≡ length list.now.shorts.now) × (length list.now.shorts.now ≤ N) × (N * 4 < 2 ^ 63) }
+    ensures handed { result.0 ≡ remainder list.now.shorts.now list.now.exercised.0 }
+    ensures written { amounts.new ≡ pro_rata list.now.shorts.now list.now.exercised.0 draw }
 {
-    let n = shorts.len();
-    if n <= 128 {
-        let mut parts = [0u32; 128];
-        return both_rounds(shorts, total, exercised, draw, amounts, &mut parts[..n]);
+    let mut parts = [0u32; N];
+    both_rounds(list, draw, amounts, &mut parts[..list.shorts.len()])
+}
+
+// The amounts under pro rata, in list order; hands back the contracts of round two. A short list has a short room for its decimal parts.
+pub fn assign(list: &JudgedList, draw: u32, amounts: &mut [u32]) -> Contracts
+    requires { length amounts.old ≡ length list.now.shorts.now }
+    ensures handed { result.0 ≡ remainder list.now.shorts.now list.now.exercised.0 }
+    ensures written { amounts.new ≡ pro_rata list.now.shorts.now list.now.exercised.0 draw }
+{
+    if list.shorts.len() <= 128 {
+        return with_room::<128>(list, draw, amounts);
     }
-    let mut parts = [0u32; 4096];
-    both_rounds(shorts, total, exercised, draw, amounts, &mut parts[..n])
+    with_room::<4096>(list, draw, amounts)
 }

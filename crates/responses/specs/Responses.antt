@@ -1,9 +1,10 @@
 -- What the call hands back, and what its output then holds.
-use Rattle.std.specs.Prelude.{ℕ, ◌≡◌, cond, ltb, length, take}
+use Rattle.std.specs.Prelude.{ℕ, ◌≡◌, cond, ltb, length, take, None, Some, Option as Option·}
 use Rattle.series.specs.Answers.{number_of}
 use Rattle.series.specs.Outputs.{onto_room}
 use Rattle.series.specs.Results.{Result, refused, value, status}
 use Rattle.series.specs.Series.{Series}
+use Rattle.series.specs.declared.Refusal.{Refusal}
 use Rattle.text_rules.specs.Fields.{Text}
 use Rattle.responses.specs.Printed.{lines_for}
 use Rattle.responses.specs.declared.Response.{Response}
@@ -13,10 +14,14 @@ pub record Printing : Type 0 where
   pub written : ℕ
   pub refusal : ℕ
 
--- what each answer hands back
+-- the number of a refusal, 0 where there is none
+abbrev pub number_told : Option· Refusal → ℕ
+number_told None = 0
+number_told (Some r) = number_of r
+
+-- what an answer hands back
 abbrev pub response_of : Response → Printing
-response_of (Response.Printed n) = record { written = n; refusal = 0 }
-response_of (Response.Refused n r) = record { written = n; refusal = number_of r }
+response_of r = record { written = r.written; refusal = number_told r.refusal }
 
 -- what is handed back for an allocation that was written, by its length, or refused: then it did not fit
 abbrev pub written_hands : Result ℕ → Printing

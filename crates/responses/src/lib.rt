@@ -8,34 +8,50 @@ ghost use Rattle.responses.specs.Printed.{refused_lines};
 ghost use Rattle.responses.specs.Responses.{response_of, written_hands, Responds};
 
 use series::Refusal;
-use text_writing::Writing;
 
 // The line before the number of a refusal.
 const REFUSED_LINE: [u8; 8] = *b"refused\n";
 
-// What a call that prints answers: how many bytes; or how many for a refusal, with the refusal, which is 4 with no bytes where the output is too short.
-#[derive(Clone, Copy)]
-pub enum Response {
-    Printed(usize),
-    Refused(usize, Refusal),
+// What a call that prints answers: how many bytes, and the refusal where there is one, which is 4 with no bytes where the output is too short.
+#[derive(Clone, Copy, Debug, PartialEq, Eq)]
+pub struct Response {
+    pub written: usize,
+    pub refusal: Option<Refusal>,
+}
+
+// What is answered where the output is too short.
+fn too_short() -> Response
+    ensures { response_of result ≡ record { written = 0; refusal = 4 } }
+{
+    Response {
+        written: 0,
+        refusal: Some(Refusal::OutputTooShort),
+    }
 }
 
 // Prints a refusal: the line `refused` and a line with its number.
 pub fn refuse(refusal: Refusal, output: &mut [u8]) -> Response
     ensures { Responds result (refused_lines (number_of refusal)) (number_of refusal) output.old output.new }
 {
-    match text_writing::write_note(&REFUSED_LINE, series::number(refusal), output) {
-        Writing::Written(n) => Response::Refused(n, refusal),
-        Writing::Refused(_) => Response::Refused(0, Refusal::OutputTooShort),
+    let number = u32::from(refusal);
+    let Ok(written) = text_writing::write_note(&REFUSED_LINE, number, output) else {
+        return too_short();
+    };
+    Response {
+        written,
+        refusal: Some(refusal),
     }
 }
 
 // What is answered for an allocation, after it was written or did not fit.
-pub fn answer_written(writing: Writing) -> Response
+pub fn answer_written(writing: Result<usize, Refusal>) -> Response
     ensures { response_of result ≡ written_hands (writing_of writing) }
 {
-    match writing {
-        Writing::Written(n) => Response::Printed(n),
-        Writing::Refused(_) => Response::Refused(0, Refusal::OutputTooShort),
+    let Ok(written) = writing else {
+        return too_short();
+    };
+    Response {
+        written,
+        refusal: None,
     }
 }

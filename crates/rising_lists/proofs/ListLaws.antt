@@ -1,7 +1,9 @@
 -- The rows of a list, as the code tries them.
 use Prim.Native.Nat.{ℕ, zero, suc, ◌+◌, ◌-◌, ◌≤◌, ◌<◌}
+use Rattle.std.proofs.lemmas.Bool.Decides.{nat_tests}
+use Rattle.std.specs.Prelude.{Some, None, Ok, Err}
 use mathlib.Core.Path.{◌≡◌, refl, sym, ap, ◌∙◌}
-use mathlib.Core.Bool.{Bool, true, false, not, ◌||◌, cond}
+use mathlib.Core.Bool.{Bool, true, false, ◌||◌, cond}
 use mathlib.Core.List.{List, [], ◌∷◌}
 use native.Mathlib.Omega.{arith}
 use native.Mathlib.Nat.{le_refl}
@@ -9,16 +11,14 @@ use native.Mathlib.Numerals.{add-one, lt_of_le_of_ne}
 use lib.Dec.{eqb, ltb, leb}
 use lib.ListN.{length, get_or, drop, drop_of_length-le}
 use lib.Seq.{drop-cons}
-use borrow.Author.Tests.{lt-ltb, le-ltb, le-leb, lt-leb, eq-eqb, ne_eqb, ltb-true, ltb-false, eqb-true, eqb-false}
+use borrow.Author.Tests.{lt-ltb, le-ltb, le-leb, lt-leb, ne_eqb, ltb-true, ltb-false, eqb-true, eqb-false}
 use Rattle.series.specs.Results.{Result, refused, value}
 use Rattle.series.specs.Places.{total}
-use Rattle.series.specs.Series.{MOST_POSITIONS, MOST_CONTRACTS}
+use Rattle.series.specs.Series.{MOST_CONTRACTS}
 use Rattle.series.specs.Refusals.{Row, first, NoneApplies, length_rows, room_rows, stands_in, account_refused, position_rows, list_rows, positions_verdict, list_verdict_for}
 use Rattle.series.specs.declared.Method.{Method}
-use Rattle.rising_lists.specs.Judged.{judged_of, EvenList, WalkTells, FallsLate}
-use Rattle.rising_lists.specs.declared.Walk.{Walk}
+use Rattle.rising_lists.specs.Judged.{EvenList, Walk, WalkTells, FallsLate, left_after}
 use Rattle.rising_lists.specs.Earlier.{down_from, earlier}
-use Rattle.series.proofs.AcceptedLaws.{or-false}
 use Rattle.series.proofs.RowLaws.{row_at, passed_first, refused-at}
 
 -- ---- each position in turn
@@ -27,6 +27,15 @@ or-true : (a b : Bool) → b ≡ true → (a || b) ≡ true
 or-true true b h = refl
 or-true false b h = h
 
+-- shorts are taken from what is left only if there are some, and enough is left
+left_taken : (n left x : ℕ) → value x ≡ left_after n left → (eqb n 0 ≡ false) × (n ≤ left) × (x ≡ left - n)
+left_taken n left x e = by_cases (eqb n 0) (ltb left n) refl refl e
+  where
+    by_cases : (t u : Bool) → eqb n 0 ≡ t → ltb left n ≡ u → value x ≡ cond t (refused 6) (cond u (refused 7) (value (left - n))) → (eqb n 0 ≡ false) × (n ≤ left) × (x ≡ left - n)
+    by_cases true u et eu h = cc
+    by_cases false true et eu h = cc
+    by_cases false false et eu h = (et, ltb-false left n eu, cc)
+
 -- at position i: the number before it, how many contracts are left of the most, and the rows from there on
 pub record Judging (m : Method) (order accounts shorts : List ℕ) (before left i : ℕ) : Type 0 where
   pub on_list : i ≤ length shorts
@@ -34,90 +43,86 @@ pub record Judging (m : Method) (order accounts shorts : List ℕ) (before left 
   pub sum_is : MOST_CONTRACTS + total (drop i shorts) ≡ left + total shorts
   pub rows_are : positions_verdict m order accounts shorts ≡ first (position_rows m (earlier accounts i) before (MOST_CONTRACTS - left) (drop i order) (drop i accounts) (drop i shorts)) (total shorts)
 
-module _ (m : Method) (order accounts shorts : List ℕ) where
+pub judging_start : (m : Method) (order accounts shorts : List ℕ) → Judging m order accounts shorts 0 MOST_CONTRACTS 0
+unfolding down_from
+judging_start m order accounts shorts = record { on_list = omega arith; left_most = omega arith; sum_is = omega arith; rows_are = refl }
+
+module _ {m : Method} {order accounts shorts : List ℕ} {before left i : ℕ} (even : EvenList order accounts shorts) (j : Judging m order accounts shorts before left i) where
   -- the verdict on the positions
   abbrev verdict_of : Result ℕ
   verdict_of = positions_verdict m order accounts shorts
 
-  pub judging_start : Judging m order accounts shorts 0 MOST_CONTRACTS 0
-  unfolding down_from
-  judging_start = record { on_list = omega arith; left_most = omega arith; sum_is = omega arith; rows_are = refl }
+  module _ (h : i < length shorts) where
+    abbrev k : ℕ
+    k = get_or order i 0
 
-  module _ (even : EvenList order accounts shorts) (before left i : ℕ) (j : Judging m order accounts shorts before left i) where
-    module _ (h : i < length shorts) where
-      abbrev k : ℕ
-      k = get_or order i 0
+    abbrev a : ℕ
+    a = get_or accounts i 0
 
-      abbrev a : ℕ
-      a = get_or accounts i 0
+    abbrev n : ℕ
+    n = get_or shorts i 0
 
-      abbrev n : ℕ
-      n = get_or shorts i 0
+    abbrev sum : ℕ
+    sum = MOST_CONTRACTS - left
 
-      abbrev sum : ℕ
-      sum = MOST_CONTRACTS - left
+    -- the rows from position i on
+    here : List Row
+    here = position_rows m (earlier accounts i) before sum (k ∷ drop (suc i) order) (a ∷ drop (suc i) accounts) (n ∷ drop (suc i) shorts)
 
-      -- the rows from position i on
-      here : List Row
-      here = position_rows m (earlier accounts i) before sum (k ∷ drop (suc i) order) (a ∷ drop (suc i) accounts) (n ∷ drop (suc i) shorts)
+    rows_here : verdict_of ≡ first here (total shorts)
+    unfolding here
+    rows_here =
+        let ko : i < length order = omega (arith, even.ordered) in
+        let ka : i < length accounts = omega (arith, even.lengths) in
+        j.rows_are ∙ rw (drop-cons order i 0 ko, drop-cons accounts i 0 ka, drop-cons shorts i 0 h) refl
 
-      rows_here : verdict_of ≡ first here (total shorts)
-      unfolding here
-      rows_here =
-          let ko : i < length order = omega (arith, even.ordered) in
-          let ka : i < length accounts = omega (arith, even.lengths) in
-          j.rows_are ∙ rw (drop-cons order i 0 ko, drop-cons accounts i 0 ka, drop-cons shorts i 0 h) refl
+    pub refused-order : k ≤ before → refused 5 ≡ verdict_of
+    unfolding here position_rows NoneApplies row_at
+    refused-order over = sym (rows_here ∙ refused-at 0 here (total shorts) tt (or-true (eqb k 0) (leb k before) (le-leb k before over)))
 
-      pub refused-order : k ≤ before → refused 5 ≡ verdict_of
+    module _ (above : before < k) where
+      five : (eqb k 0 || leb k before) ≡ false
+      five = let some : k ≡ 0 → ⊥ = λ e. omega arith in rw (ne_eqb k 0 some, lt-leb k before above)
+
+      pub refused-account : account_refused m (earlier accounts i) a ≡ true → refused 19 ≡ verdict_of
       unfolding here position_rows NoneApplies row_at
-      refused-order over = sym (rows_here ∙ refused-at 0 here (total shorts) tt (or-true (eqb k 0) (leb k before) (le-leb k before over)))
+      refused-account e = sym (rows_here ∙ refused-at 1 here (total shorts) (five, tt) e)
 
-      module _ (above : before < k) where
-        five : (eqb k 0 || leb k before) ≡ false
-        five = let some : k ≡ 0 → ⊥ = λ e. omega arith in rw (ne_eqb k 0 some, lt-leb k before above)
-
-        pub refused-account : account_refused m (earlier accounts i) a ≡ true → refused 19 ≡ verdict_of
+      module _ (new : account_refused m (earlier accounts i) a ≡ false) where
+        -- 6 or 7
+        pub refused-shorts : (r : ℕ) → refused r ≡ left_after n left → refused r ≡ verdict_of
         unfolding here position_rows NoneApplies row_at
-        refused-account e = sym (rows_here ∙ refused-at 1 here (total shorts) (five, tt) e)
+        refused-shorts r e = by_cases (eqb n 0) (ltb left n) refl refl e
+          where
+            by_cases : (t u : Bool) → eqb n 0 ≡ t → ltb left n ≡ u → refused r ≡ cond t (refused 6) (cond u (refused 7) (value (left - n))) → refused r ≡ verdict_of
+            by_cases true u none eu x = x ∙ sym (rows_here ∙ refused-at 2 here (total shorts) (five, (new, tt)) none)
+            by_cases false true some over x =
+                let more : left < n = ltb-true left n over in
+                x ∙ sym (rows_here ∙ refused-at 3 here (total shorts) (five, (new, (some, tt))) (lt-ltb MOST_CONTRACTS (sum + n) (omega (arith, j.left_most))))
+            by_cases false false some within x = absurd cc
 
-        module _ (new : account_refused m (earlier accounts i) a ≡ false) where
-          -- 6 or 7, tried by one test
-          pub refused-shorts : (eqb n 0 || ltb left n) ≡ true → refused (cond (eqb n 0) 6 7) ≡ verdict_of
-          unfolding here position_rows NoneApplies row_at
-          refused-shorts e = by_cases (eqb n 0) refl e
-            where
-              by_cases : (t : Bool) → eqb n 0 ≡ t → (t || ltb left n) ≡ true → refused (cond t 6 7) ≡ verdict_of
-              by_cases true none over = sym (rows_here ∙ refused-at 2 here (total shorts) (five, (new, tt)) none)
-              by_cases false some over =
-                  let more : left < n = ltb-true left n over in
-                  sym (rows_here ∙ refused-at 3 here (total shorts) (five, (new, (some, tt))) (lt-ltb MOST_CONTRACTS (sum + n) (omega (arith, j.left_most))))
+        pub judging_next : (x : ℕ) → value x ≡ left_after n left → Judging m order accounts shorts k x (i + 1)
+        unfolding here position_rows NoneApplies total down_from
+        judging_next x e =
+            let taken = left_taken n left x e in
+            let within : n ≤ left = taken.1 in
+            let seven = le-ltb MOST_CONTRACTS (sum + n) (omega (arith, j.left_most)) in
+            let sum_next : sum + n ≡ MOST_CONTRACTS - x = omega (arith, j.left_most, taken.2) in
+            record {
+              on_list = omega arith;
+              left_most = omega (arith, j.left_most, taken.2);
+              sum_is = rw (add-one i) (omega (arith, j.sum_is, taken.2, ap total (drop-cons shorts i 0 h)));
+              rows_are = rw (add-one i, ← sum_next) (rows_here ∙ passed_first 4 here (total shorts) (five, (new, (taken.0, (seven, tt)))));
+            }
 
-          pub judging_next : (eqb n 0 || ltb left n) ≡ false → Judging m order accounts shorts k (left - n) (i + 1)
-          unfolding here position_rows NoneApplies total down_from
-          judging_next e =
-              let parts = or-false (eqb n 0) (ltb left n) e in
-              let within : n ≤ left = ltb-false left n parts.1 in
-              let seven = le-ltb MOST_CONTRACTS (sum + n) (omega (arith, j.left_most)) in
-              let taken : sum + n ≡ MOST_CONTRACTS - (left - n) = omega (arith, j.left_most) in
-              record {
-                on_list = omega arith;
-                left_most = omega (arith, j.left_most);
-                sum_is = rw (add-one i) (omega (arith, j.sum_is, ap total (drop-cons shorts i 0 h)));
-                rows_are = rw (add-one i, ← taken) (rows_here ∙ passed_first 4 here (total shorts) (five, (new, (parts.0, (seven, tt)))));
-              }
-
-    pub judged_all : length shorts ≤ i → value (MOST_CONTRACTS - left) ≡ verdict_of
-    unfolding first position_rows total
-    judged_all h =
-        let past : length order ≤ i = omega (arith, even.ordered) in
-        let none : drop i shorts ≡ [] = drop_of_length-le shorts h in
-        let none-o : drop i order ≡ [] = drop_of_length-le order past in
-        let all : MOST_CONTRACTS - left ≡ total shorts = omega (arith, j.left_most, j.sum_is, ap total none) in
-        ap value all ∙ sym (j.rows_are ∙ ap (λ ks. first (position_rows m (earlier accounts i) before (MOST_CONTRACTS - left) ks (drop i accounts) (drop i shorts)) (total shorts)) none-o)
-
--- shorts that pass the one test of 6 and 7
-pub left-enough : (n left : ℕ) → (eqb n 0 || ltb left n) ≡ false → n ≤ left
-left-enough n left e = ltb-false left n (or-false (eqb n 0) (ltb left n) e).1
+  pub judged_all : length shorts ≤ i → value (MOST_CONTRACTS - left) ≡ verdict_of
+  unfolding first position_rows total
+  judged_all h =
+      let past : length order ≤ i = omega (arith, even.ordered) in
+      let none : drop i shorts ≡ [] = drop_of_length-le shorts h in
+      let none-o : drop i order ≡ [] = drop_of_length-le order past in
+      let all : MOST_CONTRACTS - left ≡ total shorts = omega (arith, j.left_most, j.sum_is, ap total none) in
+      ap value all ∙ sym (j.rows_are ∙ ap (λ ks. first (position_rows m (earlier accounts i) before (MOST_CONTRACTS - left) ks (drop i accounts) (drop i shorts)) (total shorts)) none-o)
 
 -- an account that is above 0 and not among the earlier ones is not refused, whatever the method
 new-account : (m : Method) (a : ℕ) (before : List ℕ) → (a ≡ 0 → ⊥) → stands_in a before ≡ false → account_refused m before a ≡ false
@@ -146,7 +151,7 @@ pub record Rising (order accounts shorts : List ℕ) (before highest left i : �
 pub rising_start : (order accounts shorts : List ℕ) → Rising order accounts shorts 0 0 MOST_CONTRACTS 0
 rising_start order accounts shorts = record { judging = λ m. judging_start m order accounts shorts; below = λ j lt. absurd (omega arith); same = λ e. refl }
 
-module _ (order accounts shorts : List ℕ) (before highest left i : ℕ) (r : Rising order accounts shorts before highest left i) where
+module _ {order accounts shorts : List ℕ} {before highest left i : ℕ} (r : Rising order accounts shorts before highest left i) where
   -- an account that does not rise, in an order that does
   pub rising_falls : before < get_or order i 0 → get_or accounts i 0 ≤ highest → order ≡ accounts → ⊥
   rising_falls above under e = omega (arith, r.same e, ap (λ (l : List ℕ). get_or l i 0) e)
@@ -158,11 +163,11 @@ module _ (order accounts shorts : List ℕ) (before highest left i : ℕ) (r : R
         new-account m (get_or accounts i 0) (earlier accounts i) (λ e. omega arith)
         (above_all (λ j. get_or accounts j 0) (get_or accounts i 0) i (λ j lt. omega (arith, r.below j lt)))
 
-    pub rising_next : EvenList order accounts shorts → i < length shorts → before < get_or order i 0 → (eqb (get_or shorts i 0) 0 || ltb left (get_or shorts i 0)) ≡ false
-        → Rising order accounts shorts (get_or order i 0) (get_or accounts i 0) (left - get_or shorts i 0) (i + 1)
-    rising_next even h above fits =
+    pub rising_next : EvenList order accounts shorts → i < length shorts → before < get_or order i 0 → (x : ℕ) → value x ≡ left_after (get_or shorts i 0) left
+        → Rising order accounts shorts (get_or order i 0) (get_or accounts i 0) x (i + 1)
+    rising_next even h above x e =
         record {
-          judging = λ m. judging_next m order accounts shorts even before left i (r.judging m) h above (rising_new m) fits;
+          judging = λ m. judging_next even (r.judging m) h above (rising_new m) x e;
           below = λ j lt. at_most j lt (eqb j i) refl;
           same = λ e. ap (λ (l : List ℕ). get_or l i 0) e;
         }
@@ -173,55 +178,16 @@ module _ (order accounts shorts : List ℕ) (before highest left i : ℕ) (r : R
 
 -- ---- the list
 
-module _ (m : Method) (order accounts shorts : List ℕ) (room : ℕ) where
-  abbrev list_verdict_lem : Result ℕ
-  list_verdict_lem = list_verdict_for m order accounts shorts room
-
-  uneven : (not (eqb (length accounts) (length shorts)) || not (eqb (length order) (length shorts))) ≡ true → refused 1 ≡ list_verdict_lem
-  unfolding list_rows length_rows NoneApplies row_at
-  uneven e = sym (refused-at 0 (list_rows m order accounts shorts room) (total shorts) tt e)
-
-  pub refused-lengths : (length accounts ≡ length shorts → ⊥) → refused 1 ≡ list_verdict_lem
-  refused-lengths d = uneven (rw (ne_eqb (length accounts) (length shorts) d))
-
-  module _ (same : length accounts ≡ length shorts) where
-    pub refused-codes : (length order ≡ length shorts → ⊥) → refused 1 ≡ list_verdict_lem
-    refused-codes d = uneven (rw (eq-eqb (length accounts) (length shorts) same, ne_eqb (length order) (length shorts) d))
-
-    module _ (beside : length order ≡ length shorts) where
-      one : (not (eqb (length accounts) (length shorts)) || not (eqb (length order) (length shorts))) ≡ false
-      one = rw (eq-eqb (length accounts) (length shorts) same, eq-eqb (length order) (length shorts) beside)
-
-      pub refused_many : MOST_POSITIONS < length shorts → refused 2 ≡ list_verdict_lem
-      unfolding list_rows length_rows NoneApplies row_at
-      refused_many h = sym (refused-at 1 (list_rows m order accounts shorts room) (total shorts) (one, tt) (lt-ltb MOST_POSITIONS (length shorts) h))
-
-      module _ (few : length shorts ≤ MOST_POSITIONS) where
-        two : ltb MOST_POSITIONS (length shorts) ≡ false
-        two = le-ltb MOST_POSITIONS (length shorts) few
-
-        pub refused_none : length shorts ≡ 0 → refused 3 ≡ list_verdict_lem
-        unfolding list_rows length_rows NoneApplies row_at
-        refused_none h = sym (refused-at 2 (list_rows m order accounts shorts room) (total shorts) (one, (two, tt)) (eq-eqb (length shorts) 0 h))
-
-        module _ (some : length shorts ≡ 0 → ⊥) where
-          three : eqb (length shorts) 0 ≡ false
-          three = ne_eqb (length shorts) 0 some
-
-          pub refused-room : room < length shorts → refused 4 ≡ list_verdict_lem
-          unfolding list_rows length_rows room_rows NoneApplies row_at
-          refused-room h = sym (refused-at 3 (list_rows m order accounts shorts room) (total shorts) (one, (two, (three, tt))) (lt-ltb room (length shorts) h))
-
-          pub judged_positions : length shorts ≤ room → (v : Result ℕ) → v ≡ positions_verdict m order accounts shorts → v ≡ list_verdict_lem
-          unfolding list_rows length_rows room_rows NoneApplies
-          judged_positions fits v e =
-              e ∙ sym (passed_first 4 (list_rows m order accounts shorts room) (total shorts) (one, (two, (three, (le-ltb room (length shorts) fits, tt)))))
+-- a list whose lengths no row refuses is judged by its positions
+judged_positions : (m : Method) {order accounts shorts : List ℕ} {room : ℕ} → EvenList order accounts shorts → (length shorts ≡ 0 → ⊥) → length shorts ≤ room
+    → positions_verdict m order accounts shorts ≡ list_verdict_for m order accounts shorts room
+unfolding first list_rows length_rows room_rows
+judged_positions m even some fits = grind (arith, nat_tests, even.lengths, even.ordered, even.few)
 
 -- a walk tells of the list what it tells of the positions
-pub walked : (w : Walk) (order accounts shorts : List ℕ) (room : ℕ) → EvenList order accounts shorts → (length shorts ≡ 0 → ⊥) → length shorts ≤ room
+pub walked : (w : Walk) {order accounts shorts : List ℕ} {room : ℕ} → EvenList order accounts shorts → (length shorts ≡ 0 → ⊥) → length shorts ≤ room
     → ((m : Method) → WalkTells w (positions_verdict m order accounts shorts))
     → ((m : Method) → WalkTells w (list_verdict_for m order accounts shorts room)) × FallsLate w order accounts shorts room
-walked (Walk.Judged j) order accounts shorts room even some fits told =
-    (λ m. judged_positions m order accounts shorts room even.lengths even.ordered even.few some fits (judged_of j) (told m), tt)
-walked Walk.Falls order accounts shorts room even some fits told =
-    (λ m. tt, (even, λ m. sym (judged_positions m order accounts shorts room even.lengths even.ordered even.few some fits _ refl)))
+walked (Ok (Some T)) even some fits told = (λ m. told m ∙ judged_positions m even some fits, tt)
+walked (Ok None) even some fits told = (λ m. tt, (even, λ m. sym (judged_positions m even some fits)))
+walked (Err r) even some fits told = (λ m. told m ∙ judged_positions m even some fits, tt)

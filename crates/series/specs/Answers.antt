@@ -1,12 +1,17 @@
--- The document's numbers and values for each case of the enums of src/.
-use Rattle.std.specs.Prelude.{ℕ}
+-- The document's numbers and values for the types of src/.
+use Rattle.std.specs.Prelude.{ℕ, Some, None, Ok, Err, Option as Option·, Result as Result·}
 use Rattle.std.proofs.Math.Option.{Option, none, some}
 use Rattle.series.specs.Results.{Result, refused, value}
+use Rattle.series.specs.Series.{Series}
 use Rattle.series.specs.declared.Refusal.{Refusal}
 use Rattle.series.specs.declared.Refusal.TheVariants.{LengthsDiffer, TooManyPositions, NoPositions, OutputTooShort, OutOfOrder, NoShorts, TotalTooLarge, NothingExercised, ExercisedAboveTotal, DrawOutOfRange, TextTooLong, NamesLine, Malformed, UnknownMethod, TooManyLines}
 use Rattle.series.specs.declared.Refusal.TheVariants.{CountTooLarge, ClosingPurchasesAboveShort, ExercisedAboveLimit, AccountRepeated, LastNotAbove, TooManyJobs, StretchMisplaced, IncrementOutOfRange, TooManyBlocks}
 use Rattle.series.specs.declared.Method.{Method}
-use Rattle.series.specs.declared.Answer.{Answer}
+use Rattle.series.specs.declared.Terms.{Terms}
+use Rattle.series.specs.declared.Place.{Place}
+use Rattle.series.specs.declared.Positions.{Positions}
+use Rattle.series.specs.declared.Series.{Series as Series·}
+use Rattle.series.specs.declared.Allocated.{Allocated}
 
 -- the number of a refusal
 abbrev pub number_of : Refusal → ℕ
@@ -46,12 +51,36 @@ abbrev pub handed_back : Option ℕ → ℕ
 handed_back none = 0
 handed_back (some n) = n
 
--- what each answer of the allocating call hands back: T1 for W, the contracts of round two for P, the starting place for L and R, or none
-abbrev pub answer_of : Answer → Result Allocation
-answer_of (Answer.Wheel T T1) = value (record { method = Method.Wheel; total = T.0; further = some T1 })
-answer_of (Answer.ProRata T left) = value (record { method = Method.ProRata; total = T.0; further = some left.0 })
-answer_of (Answer.Lottery T p) = value (record { method = Method.Lottery; total = T.0; further = some p.0 })
-answer_of (Answer.LotteryUndrawn T) = value (record { method = Method.Lottery; total = T.0; further = none })
-answer_of (Answer.RemainderDraw T p) = value (record { method = Method.RemainderDraw; total = T.0; further = some p.0 })
-answer_of (Answer.RemainderUndrawn T) = value (record { method = Method.RemainderDraw; total = T.0; further = none })
-answer_of (Answer.Refused r) = refused (number_of r)
+-- the starting place, or none
+abbrev pub place_of : Option· Place → Option ℕ
+place_of (Some p) = some p.0
+place_of None = none
+
+-- what each method hands back: T1 for W, the contracts of round two for P, the starting place for L and R, or none
+abbrev pub allocation_of : Allocated → Allocation
+allocation_of (Allocated.Wheel T T1) = record { method = Method.Wheel; total = T.0; further = some T1 }
+allocation_of (Allocated.ProRata T left) = record { method = Method.ProRata; total = T.0; further = some left.0 }
+allocation_of (Allocated.Lottery T p) = record { method = Method.Lottery; total = T.0; further = place_of p }
+allocation_of (Allocated.RemainderDraw T p) = record { method = Method.RemainderDraw; total = T.0; further = place_of p }
+
+-- what a call comes to, by what its value hands back: that, or the number of its refusal
+abbrev pub outcome_of : {A B : Type 0} → (A → B) → Result· A Refusal → Result B
+outcome_of f (Ok a) = value (f a)
+outcome_of f (Err r) = refused (number_of r)
+
+-- the number that such a call answers C: 0, or that of the refusal
+abbrev pub status_of : {A : Type 0} → Result· A Refusal → ℕ
+status_of (Ok a) = 0
+status_of (Err r) = number_of r
+
+-- what the allocating call comes to
+abbrev pub answer_of : Result· Allocated Refusal → Result Allocation
+answer_of a = outcome_of allocation_of a
+
+-- the series of these positions under other terms
+abbrev pub series_on : Terms → Positions → Series
+series_on t p = record { terms = t; codes = p.codes.now; accounts = p.accounts.now; shorts = p.shorts.now }
+
+-- the series
+abbrev pub series_of : Series· → Series
+series_of s = series_on s.terms s.positions

@@ -6,15 +6,15 @@ ghost use Rattle.series.specs.Answers.{number_of};
 ghost use Rattle.series.specs.Series.{terms_of};
 
 // A place on the wheel, document 01's "place": counts from 1.
-#[derive(Clone, Copy)]
+#[derive(Clone, Copy, Debug, PartialEq, Eq, PartialOrd, Ord)]
 pub struct Place(pub u32);
 
 // A number of contracts, as T, S, a position's shorts or an amount: counts from 0.
-#[derive(Clone, Copy)]
+#[derive(Clone, Copy, Debug, PartialEq, Eq, PartialOrd, Ord)]
 pub struct Contracts(pub u32);
 
 // The methods: the wheel (W), pro rata (P), the starting number (L), the remainder draw (R).
-#[derive(Clone, Copy)]
+#[derive(Clone, Copy, Debug, PartialEq, Eq)]
 pub enum Method {
     Wheel,
     ProRata,
@@ -23,7 +23,7 @@ pub enum Method {
 }
 
 // What a call is given of a series beside its lists: the method, the contracts exercised (S), the draw and, for the wheel, the assignment increment.
-#[derive(Clone, Copy)]
+#[derive(Clone, Copy, Debug, PartialEq, Eq)]
 pub struct Terms {
     pub method: Method,
     pub exercised: Contracts,
@@ -46,38 +46,62 @@ pub fn terms_of(method: Method, exercised: Contracts, draw: u32, increment: Cont
     }
 }
 
-// Why a call is turned away, in the order of the numbers of documents 01 and 02.
+// The short positions of a series: a code, an account and its shorts each.
 #[derive(Clone, Copy)]
-pub enum Refusal {
-    LengthsDiffer,
-    TooManyPositions,
-    NoPositions,
-    OutputTooShort,
-    OutOfOrder,
-    NoShorts,
-    TotalTooLarge,
-    NothingExercised,
-    ExercisedAboveTotal,
-    DrawOutOfRange,
-    TextTooLong,
-    NamesLine,
-    Malformed,
-    UnknownMethod,
-    TooManyLines,
-    CountTooLarge,
-    ClosingPurchasesAboveShort,
-    ExercisedAboveLimit,
-    AccountRepeated,
-    LastNotAbove,
-    TooManyJobs,
-    StretchMisplaced,
-    IncrementOutOfRange,
-    TooManyBlocks,
+pub struct Positions<'a> {
+    pub codes: &'a [u32],
+    pub accounts: &'a [u32],
+    pub shorts: &'a [u32],
 }
 
-// What the allocating call answers: T with the method's one further number, or a refusal.
+// A series: its terms and its positions.
 #[derive(Clone, Copy)]
-pub enum Answer {
+pub struct Series<'a> {
+    pub terms: Terms,
+    pub positions: Positions<'a>,
+}
+
+// Why a call is turned away, by the numbers of documents 01 and 02.
+#[derive(Clone, Copy, Debug, PartialEq, Eq)]
+pub enum Refusal {
+    LengthsDiffer = 1,
+    TooManyPositions = 2,
+    NoPositions = 3,
+    OutputTooShort = 4,
+    OutOfOrder = 5,
+    NoShorts = 6,
+    TotalTooLarge = 7,
+    NothingExercised = 8,
+    ExercisedAboveTotal = 9,
+    DrawOutOfRange = 10,
+    TextTooLong = 11,
+    NamesLine = 12,
+    Malformed = 13,
+    UnknownMethod = 14,
+    TooManyLines = 15,
+    CountTooLarge = 16,
+    ClosingPurchasesAboveShort = 17,
+    ExercisedAboveLimit = 18,
+    AccountRepeated = 19,
+    LastNotAbove = 20,
+    TooManyJobs = 21,
+    StretchMisplaced = 22,
+    IncrementOutOfRange = 23,
+    TooManyBlocks = 24,
+}
+
+// The number of a refusal.
+impl From<Refusal> for u32 {
+    ghost from_gives = { λ refusal number. number ≡ number_of refusal };
+
+    fn from(refusal: Refusal) -> u32 {
+        refusal as u32
+    }
+}
+
+// What an allocation hands back: T with the method's one further number. L and R have no starting place where S equals T or the list has one position.
+#[derive(Clone, Copy, Debug, PartialEq, Eq)]
+pub enum Allocated {
     // The number of blocks T1, 0 where S equals T.
     Wheel {
         total: Contracts,
@@ -88,55 +112,12 @@ pub enum Answer {
         total: Contracts,
         remainder: Contracts,
     },
-    // The starting place.
     Lottery {
         total: Contracts,
-        start: Place,
+        start: Option<Place>,
     },
-    // Without a starting place: S equals T, or the list has one position.
-    LotteryUndrawn {
-        total: Contracts,
-    },
-    // The starting place.
     RemainderDraw {
         total: Contracts,
-        start: Place,
+        start: Option<Place>,
     },
-    // Without a starting place, as LotteryUndrawn.
-    RemainderUndrawn {
-        total: Contracts,
-    },
-    Refused(Refusal),
-}
-
-// The number of a refusal in documents 01 and 02.
-pub fn number(refusal: Refusal) -> u32
-    ensures { result ≡ number_of refusal }
-{
-    match refusal {
-        Refusal::LengthsDiffer => 1,
-        Refusal::TooManyPositions => 2,
-        Refusal::NoPositions => 3,
-        Refusal::OutputTooShort => 4,
-        Refusal::OutOfOrder => 5,
-        Refusal::NoShorts => 6,
-        Refusal::TotalTooLarge => 7,
-        Refusal::NothingExercised => 8,
-        Refusal::ExercisedAboveTotal => 9,
-        Refusal::DrawOutOfRange => 10,
-        Refusal::TextTooLong => 11,
-        Refusal::NamesLine => 12,
-        Refusal::Malformed => 13,
-        Refusal::UnknownMethod => 14,
-        Refusal::TooManyLines => 15,
-        Refusal::CountTooLarge => 16,
-        Refusal::ClosingPurchasesAboveShort => 17,
-        Refusal::ExercisedAboveLimit => 18,
-        Refusal::AccountRepeated => 19,
-        Refusal::LastNotAbove => 20,
-        Refusal::TooManyJobs => 21,
-        Refusal::StretchMisplaced => 22,
-        Refusal::IncrementOutOfRange => 23,
-        Refusal::TooManyBlocks => 24,
-    }
 }

@@ -6,6 +6,8 @@ use native.Mathlib.Omega.{arith}
 use borrow.Author.Tests.{le-ltb}
 use lib.ListN.{length, take, drop}
 use lib.Seq.{take_at}
+use Rattle.std.specs.Prelude.{Result as Result·}
+use Rattle.series.specs.declared.Refusal.{Refusal}
 use Rattle.series.specs.Outputs.{onto, Lent}
 use Rattle.series.specs.Results.{value}
 use Rattle.forms.specs.Forms.{Listing}
@@ -16,14 +18,14 @@ use Rattle.text_rules.specs.Calls.{read_into, handed, ListsRead, read_lent, Read
 use Rattle.text_rules.proofs.RowLaws.{Fits}
 use Rattle.text_rules.proofs.RoundTrip.{round_trip, Wrote, wrote}
 use Rattle.series_text.specs.Answers.{reading_of}
-use Rattle.series_text.specs.declared.Reading.{Reading}
+use Rattle.series_text.specs.declared.ReadSeries.{ReadSeries}
 
 -- where writing answered Written n, reading the first n bytes of its output into three lists that are long enough
 -- answers with the same listing, and the lists hold its positions and then what they held
 pub calls_round_trip :
     (t : Listing) → t.terms.exercised.0 ≤ LARGEST → t.terms.draw ≤ LARGEST → t.terms.increment.0 ≤ LARGEST → Fits t.codes → Fits t.accounts → Fits t.numbers
     → (old new : List ℕ) (n : ℕ) → WritingCall (write_into t (length old)) (value n) old new
-    → (codes accounts numbers : Lent (List ℕ)) (r : Reading) → length t.codes ≤ length codes.old → length t.accounts ≤ length accounts.old → length t.numbers ≤ length numbers.old
+    → (codes accounts numbers : Lent (List ℕ)) (r : Result· ReadSeries Refusal) → length t.codes ≤ length codes.old → length t.accounts ≤ length accounts.old → length t.numbers ≤ length numbers.old
     → ReadingCall (take n new) (reading_of r) codes accounts numbers
     → (reading_of r ≡ value (record { form = t.form; terms = t.terms; positions = length t.accounts })) × ListsRead (value t) codes accounts numbers
 unfolding onto read_into handed

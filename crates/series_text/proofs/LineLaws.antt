@@ -1,12 +1,13 @@
 -- Laws of the position lines, to the end of a text.
 use Prim.Native.Nat.{ℕ, suc, ◌+◌, ◌-◌, ◌≤◌, ◌<◌}
 use mathlib.Core.Path.{◌≡◌, refl, sym, ap, ◌∙◌}
-use mathlib.Core.Bool.{Bool, true, false}
+use mathlib.Core.Bool.{Bool, true, false, true≢false}
 use mathlib.Core.List.{List, [], ◌∷◌, ◌++◌, map, append_assoc, append-nil, map-id, map-map}
 use native.Mathlib.Omega.{arith}
 use native.Mathlib.Nat.{sub-zero}
-use borrow.Rule.Slice.PartMut.{put_mid}
-use lib.ListN.{length, get_or, drop, set, drop_of_length-le}
+use borrow.Author.Tests.{eqb-true}
+use lib.Dec.{eqb}
+use lib.ListN.{length, get_or, drop}
 use Rattle.series.specs.Results.{Result, refused, value, ◌>>=◌}
 use Rattle.series.specs.declared.Terms.{Terms}
 use Rattle.forms.specs.declared.Form.{Form}
@@ -15,25 +16,19 @@ use Rattle.text_rules.specs.Rows.{read_row, read_rows, rows_of, column}
 use Rattle.text_rules.specs.Text.{MOST_LINES, line_width, listing_of, read_positions}
 use Rattle.text_rules.proofs.RowLaws.{rows_none}
 use Rattle.text_rules.proofs.ColumnLaws.{column-rows}
-use Rattle.text_fields.specs.Parts.{row_means}
-use Rattle.text_fields.specs.declared.row.RowEnd.{RowEnd}
-use Rattle.text_fields.proofs.FieldLaws.{drop_more}
 use Rattle.series_text.specs.Parts.{with_code, read_position}
 
 -- ---- the position lines
 
--- the answer of `read_row` on a position line, with the code
-pub position_read : (c : Bool) (s u : Text) (row : List ℕ) (r : RowEnd) → row_means s row r ≡ read_row (line_width c) u → row_means s (with_code c row) r ≡ read_position c u
+-- a row that was read, with the code in front of it, and the text after it
+pub position_found : (c : Bool) (u rest : Text) (row : List ℕ) → value (record { found = row; rest = rest }) ≡ read_row (line_width c) u → value (record { found = with_code c row; rest = rest }) ≡ read_position c u
 unfolding read_position
-position_read c s u row (RowEnd.At next) h = rw (← h)
-position_read c s u row RowEnd.Malformed h = rw (← h)
+position_found c u rest row h = rw (← h)
 
--- the account is put in front of numbers that stand in the rest of a row
-pub code_put : (row ns : List ℕ) → 1 ≤ length row → let whole = put_mid 1 (length row - 1) row ns in set whole 0 (get_or whole 1 0) ≡ with_code false ns
-code_put [] ns some = absurd (omega arith)
-code_put (a ∷ row) ns some =
-    let none : drop (length (a ∷ row) - 1) row ≡ [] = drop_of_length-le row {i = length (a ∷ row) - 1} (omega arith) in
-    rw (none, append-nil)
+-- none was read
+pub position_none : (c : Bool) (u : Text) → refused 13 ≡ read_row (line_width c) u → refused 13 ≡ read_position c u
+unfolding read_position
+position_none c u h = rw (← h)
 
 -- at most so many position lines to the end of the text, each as a code, an account and shorts
 unfoldable pub position_lines : ℕ → Bool → Text → Result (List (List ℕ))
@@ -68,41 +63,62 @@ positions-next most c b s = go (read_row (line_width c) (b ∷ s))
     go (refused n) = refl
     go (value r) = others r.found (read_rows most (line_width c) r.rest)
 
--- what the loop over the lines keeps: n rows of at most `most` are read, and the text goes on at index at
-pub record RowsTo (most : ℕ) (c : Bool) (s : Text) (from : ℕ) (rows : List (List ℕ)) (at n : ℕ) : Type 0 where
-  pub reads : position_lines most c (drop from s) ≡ above rows (position_lines (most - n) c (drop at s))
+-- what `is_empty` tells of the rest of the text
+pub none_left : (u : Text) (t : Bool) → t ≡ eqb (length u) 0 → t ≡ true → u ≡ []
+none_left [] t e h = refl
+none_left (b ∷ u) t e h = let none : suc (length u) ≡ 0 = eqb-true (suc (length u)) 0 (sym e ∙ h) in absurd (omega (arith, none))
 
-pub rows_start : {most : ℕ} {c : Bool} {s : Text} {from : ℕ} → RowsTo most c s from [] from 0
-rows_start {most} {c} {s} {from} = record { reads = rw sub-zero (above-nil (position_lines most c (drop from s))) }
+pub some_left : (u : Text) (t : Bool) → t ≡ eqb (length u) 0 → t ≡ false → u ≡ [] → ⊥
+some_left [] t e h is = true≢false (sym e ∙ h)
+some_left (b ∷ u) t e h is = let none : suc (length u) ≡ 0 = ap length is in omega (arith, none)
 
-module _ {most : ℕ} {c : Bool} {s : Text} {from : ℕ} {rows : List (List ℕ)} {at n : ℕ} (so : RowsTo most c s from rows at n) where
+-- what the loop over the lines keeps: n rows of at most `most` are read, and the others are read from the rest of the text
+pub record RowsTo (most : ℕ) (c : Bool) (s : Text) (rows : List (List ℕ)) (rest : Text) (n : ℕ) : Type 0 where
+  pub reads : position_lines most c s ≡ above rows (position_lines (most - n) c rest)
+
+pub rows_start : {most : ℕ} {c : Bool} {s : Text} → RowsTo most c s [] s 0
+rows_start {most} {c} {s} = record { reads = rw sub-zero (above-nil (position_lines most c s)) }
+
+module _ {most : ℕ} {c : Bool} {s : Text} {rows : List (List ℕ)} {rest : Text} {n : ℕ} (so : RowsTo most c s rows rest n) where
   -- the text ends
-  pub rows_end : length s ≤ at → value rows ≡ position_lines most c (drop from s)
+  pub rows_end : rest ≡ [] → value rows ≡ position_lines most c s
   unfolding above position_lines
-  rows_end le = sym (so.reads ∙ rw (drop_of_length-le s le, rows_none, append-nil))
+  rows_end e = sym (so.reads ∙ rw (e, rows_none, append-nil))
 
-  -- a line too many
-  pub rows_over : at < length s → most ≤ n → refused 15 ≡ position_lines most c (drop from s)
-  unfolding above position_lines read_rows
-  rows_over lt le =
-      let e : most - n ≡ 0 = omega arith in
-      sym (so.reads ∙ rw (drop_more at s lt, e))
+  module _ (e : (rest ≡ [] → ⊥)) where
+    first_byte : rest ≡ get_or rest 0 0 ∷ drop 1 rest
+    first_byte = go rest e
+      where
+        go : (u : Text) → (u ≡ [] → ⊥) → u ≡ get_or u 0 0 ∷ drop 1 u
+        go [] e = absurd (e refl)
+        go (b ∷ u) e = refl
 
-  -- a further line
-  next_row : at < length s → n < most → position_lines most c (drop from s) ≡ above rows (read_position c (drop at s) >>= λ r. above (r.found ∷ []) (position_lines (most - (n + 1)) c r.rest))
-  next_row lt le =
-      let e : most - n ≡ suc (most - (n + 1)) = omega arith in
-      so.reads ∙ rw (drop_more at s lt, e, positions-next)
+    -- a line too many
+    pub rows_over : most ≤ n → refused 15 ≡ position_lines most c s
+    unfolding above position_lines read_rows
+    rows_over le =
+        let none : most - n ≡ 0 = omega arith in
+        sym (so.reads ∙ ap (λ u. above rows (position_lines (most - n) c u)) first_byte ∙ rw none)
 
-  module _ (lt : at < length s) (le : n < most) where
-    -- it has not its numbers
-    pub rows_malformed : refused 13 ≡ read_position c (drop at s) → refused 13 ≡ position_lines most c (drop from s)
-    unfolding above
-    rows_malformed h = sym (next_row lt le ∙ rw (← h))
+    module _ (le : n < most) where
+      -- a further line
+      next_row : position_lines most c s ≡ above rows (read_position c rest >>= λ r. above (r.found ∷ []) (position_lines (most - (n + 1)) c r.rest))
+      next_row =
+          let one : most - n ≡ suc (most - (n + 1)) = omega arith in
+          so.reads
+          ∙ ap (λ u. above rows (position_lines (most - n) c u)) first_byte
+          ∙ ap (λ m. above rows (position_lines m c (get_or rest 0 0 ∷ drop 1 rest))) one
+          ∙ ap (above rows) (positions-next (most - (n + 1)) c (get_or rest 0 0) (drop 1 rest))
+          ∙ ap (λ u. above rows (read_position c u >>= λ r. above (r.found ∷ []) (position_lines (most - (n + 1)) c r.rest))) (sym first_byte)
 
-    -- one more row
-    pub rows_more : {row : List ℕ} {next : ℕ} → value (record { found = row; rest = drop next s }) ≡ read_position c (drop at s) → RowsTo most c s from (rows ++ (row ∷ [])) next (n + 1)
-    rows_more {row} {next} h = record { reads = next_row lt le ∙ rw (← h) (above-above rows (row ∷ []) (position_lines (most - (n + 1)) c (drop next s))) }
+      -- it has not its numbers
+      pub rows_malformed : refused 13 ≡ read_position c rest → refused 13 ≡ position_lines most c s
+      unfolding above
+      rows_malformed h = sym (next_row ∙ rw (← h))
+
+      -- one more row
+      pub rows_more : {row : List ℕ} {after : Text} → value (record { found = row; rest = after }) ≡ read_position c rest → RowsTo most c s (rows ++ (row ∷ [])) after (n + 1)
+      rows_more {row} {after} h = record { reads = next_row ∙ rw (← h) (above-above rows (row ∷ []) (position_lines (most - (n + 1)) c after)) }
 
 -- ---- the listing of the position lines
 

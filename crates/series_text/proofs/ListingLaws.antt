@@ -4,6 +4,7 @@ use mathlib.Core.Path.{◌≡◌}
 use mathlib.Core.List.{List}
 use native.Mathlib.Omega.{arith}
 use lib.ListN.{length, take}
+use Rattle.std.specs.Prelude.{Ok}
 use Rattle.series.specs.Results.{value}
 use Rattle.series.specs.Outputs.{Lent}
 use Rattle.series.specs.declared.Terms.{Terms}
@@ -13,7 +14,7 @@ use Rattle.text_rules.specs.Text.{MOST_LINES, read_text}
 use Rattle.text_rules.specs.Calls.{ReadingCall}
 use Rattle.text_rules.proofs.ReadingLaws.{read_listing}
 use Rattle.series_text.specs.Answers.{reading_of}
-use Rattle.series_text.specs.declared.Reading.{Reading}
+use Rattle.series_text.specs.declared.ReadSeries.{ReadSeries}
 
 -- its n positions stand first in the three lists, which have room for them
 pub record ListingRead (s : Text) (codes accounts numbers : List ℕ) (f : Form) (t : Terms) (n : ℕ) : Type 0 where
@@ -32,11 +33,11 @@ pub record Room (codes accounts numbers : Lent (List ℕ)) : Type 0 where
   pub accounts_kept : length accounts.new ≡ length accounts.old
   pub numbers_kept : length numbers.new ≡ length numbers.old
 
-pub listing_read : {s : Text} {codes accounts numbers : Lent (List ℕ)} {f : Form} {t : Terms} {n : ℕ} {r : Reading}
-    → Room codes accounts numbers → ReadingCall s (reading_of r) codes accounts numbers → r ≡ Reading.Series f t n
-    → ListingRead s codes.new accounts.new numbers.new f t n
-listing_read {s = s} {codes = codes} {accounts = accounts} {numbers = numbers} {f = f} {t = t} {n = n} room call is =
-    let read = read_listing s codes accounts numbers room.codes_room room.accounts_room room.numbers_room f t n (rw is at call) in
+pub listing_read : {s : Text} {codes accounts numbers : Lent (List ℕ)} {r : ReadSeries}
+    → Room codes accounts numbers → ReadingCall s (reading_of (Ok r)) codes accounts numbers
+    → ListingRead s codes.new accounts.new numbers.new r.form r.terms r.positions
+listing_read {s = s} {codes = codes} {accounts = accounts} {numbers = numbers} {r = r} room call =
+    let read = read_listing s codes accounts numbers room.codes_room room.accounts_room room.numbers_room r.form r.terms r.positions call in
     record {
       few = read.0;
       in_codes = omega (arith, read.0, room.codes_room, room.codes_kept);

@@ -1,58 +1,50 @@
 // Reading the position lines of a text.
-ghost use Rattle.std.specs.Prelude.{◌≡◌, ◌≤◌, length, drop};
-ghost use Rattle.text_rules.specs.Text.{MOST_LINES};
 ghost use Rattle.series_text.specs.Parts.{PositionRead, LinesRead};
 
 use series::Refusal;
-use text_fields::row::{RowEnd, read_row};
+use text_fields::Read;
+use text_fields::row::read_row;
 
-// How many positions were read.
-#[derive(Clone, Copy)]
-pub enum Positions {
-    Read(usize),
-    Refused(Refusal),
+// The codes, the accounts and the shorts or last numbers of at most 1,024 positions.
+#[derive(Drop)]
+pub struct Lists {
+    pub codes: [u32; 1024],
+    pub accounts: [u32; 1024],
+    pub numbers: [u32; 1024],
 }
 
-// Reads the code, the account and the shorts or last number of a position line at an index. Without a code of its own the code is the account.
-fn read_position(text: &[u8], at: usize, coded: bool, row: &mut [u32]) -> RowEnd
-    requires { length row.old ≡ 3 }
-    ensures { PositionRead coded text.now at row.new result }
+// Reads a position line: the code, the account and the shorts or last number. Without a code of its own the code is the account.
+fn read_position<'a>(text: &'a [u8], coded: bool) -> Option<Read<'a, [u32; 3]>>
+    ensures { PositionRead coded text.now result }
 {
+    let mut found = [0; 3];
     if coded {
-        return read_row(text, at, row);
+        let rest = read_row(text, &mut found)?;
+        return Some(Read { found, rest });
     }
-    let end = read_row(text, at, &mut row[1..]);
-    row[0] = row[1];
-    end
+    let rest = read_row(text, &mut found[1..])?;
+    found[0] = found[1];
+    Some(Read { found, rest })
 }
 
-// The position lines from an index to the end of the text, at most 1,024 of them.
-pub fn read_positions(
-    text: &[u8],
-    from: usize,
-    coded: bool,
-    codes: &mut [u32],
-    accounts: &mut [u32],
-    numbers: &mut [u32],
-) -> Positions
-    requires { (MOST_LINES ≤ length codes.old) × (MOST_LINES ≤ length accounts.old) × (MOST_LINES ≤ length numbers.old) }
-    ensures { LinesRead coded (drop from text.now) codes.new accounts.new numbers.new result }
+// Reads position lines to the end of the text, at most 1,024 of them: how many there are.
+pub fn read_positions(text: &[u8], coded: bool, lists: &mut Lists) -> Result<usize, Refusal>
+    ensures { LinesRead coded text.now lists.new.codes lists.new.accounts lists.new.numbers result }
 {
-    let mut row = [0u32; 3];
-    let mut at = from;
-    let mut n: usize = 0;
-    while at < text.len() {
+    let mut rest = text;
+    let mut n = 0;
+    // A `while`: the end of the text ends the loop, not a count.
+    while !rest.is_empty() {
         if n >= 1024 {
-            return Positions::Refused(Refusal::TooManyLines);
+            return Err(Refusal::TooManyLines);
         }
-        let RowEnd::At(next) = read_position(text, at, coded, &mut row) else {
-            return Positions::Refused(Refusal::Malformed);
-        };
-        codes[n] = row[0];
-        accounts[n] = row[1];
-        numbers[n] = row[2];
+        let position = read_position(rest, coded).ok_or(Refusal::Malformed)?;
+        let [code, account, number] = position.found;
+        lists.codes[n] = code;
+        lists.accounts[n] = account;
+        lists.numbers[n] = number;
         n += 1;
-        at = next;
+        rest = position.rest;
     }
-    Positions::Read(n)
+    Ok(n)
 }

@@ -1,14 +1,9 @@
 // Reads, rewrites and changes texts, and prints what it got. A lent list holds 7s before the call, an output dots.
 #![tactic(auto)]
 
-ghost use Rattle.std.specs.Prelude.{◌≤◌, max, length};
-
-use console::Input;
-use forms::Form;
+use forms::{Form, Listing};
 use series::{Contracts, DEFAULT_INCREMENT, Method, Refusal, Terms, terms_of};
-use series_text::Reading;
 use std::io::Read;
-use text_writing::Writing;
 
 // What cannot be written is missing in the output, and the comparison shows it.
 fn print(rt: &impl Print, bytes: &[u8]) {
@@ -21,10 +16,8 @@ fn print_number(rt: &impl Print, n: u64) {
 
 // A list and the end of the line.
 fn print_list(rt: &impl Print, list: &[u32]) {
-    let mut i = 0;
-    while i < list.len() {
-        print_number(rt, list[i] as u64);
-        i += 1;
+    for &number in list {
+        print_number(rt, number as u64);
     }
     print(rt, b"\n");
 }
@@ -65,35 +58,28 @@ fn print_terms(rt: &impl Print, terms: Terms) {
 
 fn print_refusal(rt: &impl Print, refusal: Refusal) {
     print(rt, b"refused ");
-    print_number(rt, series::number(refusal) as u64);
+    print_number(rt, u32::from(refusal) as u64);
     print(rt, b"\n");
 }
 
 // What a call that writes answered, and its whole output.
-fn print_writing(rt: &impl Print, writing: Writing, output: &[u8]) {
+fn print_writing(rt: &impl Print, writing: Result<usize, Refusal>, output: &[u8]) {
     match writing {
-        Writing::Written(n) => {
+        Ok(n) => {
             print(rt, b"written ");
             print_number(rt, n as u64);
             print(rt, b"\n");
         }
-        Writing::Refused(refusal) => print_refusal(rt, refusal),
+        Err(refusal) => print_refusal(rt, refusal),
     }
     print(rt, output);
     print(rt, b"\n");
 }
 
 // Writes a series to an output of 96 bytes.
-fn rewrite(
-    rt: &impl Print,
-    form: Form,
-    terms: Terms,
-    codes: &[u32],
-    accounts: &[u32],
-    numbers: &[u32],
-) {
+fn rewrite(rt: &impl Print, listing: &Listing) {
     let mut output = [b'.'; 96];
-    let writing = text_writing::write(form, terms, codes, accounts, numbers, &mut output);
+    let writing = text_writing::write(listing, &mut output);
     print_writing(rt, writing, &output);
 }
 
@@ -104,26 +90,24 @@ fn change(rt: &impl Print, text: &[u8]) {
     print_writing(rt, writing, &output);
 }
 
-// Rewrites the first n positions of three lists.
-fn rewrite_first(
-    rt: &impl Print,
-    form: Form,
-    terms: Terms,
-    codes: &[u32],
-    accounts: &[u32],
-    numbers: &[u32],
-    n: usize,
-) {
-    if n > codes.len() {
+// Rewrites the first n positions of a listing that has as many in each list.
+fn rewrite_first(rt: &impl Print, listing: &Listing, n: usize) {
+    let (Some(codes), Some(accounts), Some(numbers)) = (
+        listing.codes.get(..n),
+        listing.accounts.get(..n),
+        listing.numbers.get(..n),
+    ) else {
         return;
-    }
-    if n > accounts.len() {
-        return;
-    }
-    if n > numbers.len() {
-        return;
-    }
-    rewrite(rt, form, terms, &codes[..n], &accounts[..n], &numbers[..n]);
+    };
+    rewrite(
+        rt,
+        &Listing {
+            codes,
+            accounts,
+            numbers,
+            ..*listing
+        },
+    );
 }
 
 // Reads a text into lists of 6, prints what they hold, and rewrites the series.
@@ -131,97 +115,70 @@ fn reread(rt: &impl Print, text: &[u8]) {
     let mut codes = [7u32; 6];
     let mut accounts = [7u32; 6];
     let mut numbers = [7u32; 6];
-    match series_text::read(text, &mut codes, &mut accounts, &mut numbers) {
-        Reading::Refused(refusal) => {
-            print_refusal(rt, refusal);
-            print_list(rt, &codes);
-            print_list(rt, &accounts);
-            print_list(rt, &numbers);
-        }
-        Reading::Series {
-            form,
-            terms,
-            positions,
-        } => {
+    let reading = series_text::read(text, &mut codes, &mut accounts, &mut numbers);
+    match reading {
+        Ok(read) => {
             print(rt, b"read ");
-            print_form(rt, form);
-            print_terms(rt, terms);
-            print_number(rt, positions as u64);
+            print_form(rt, read.form);
+            print_terms(rt, read.terms);
+            print_number(rt, read.positions as u64);
             print(rt, b"\n");
-            print_list(rt, &codes);
-            print_list(rt, &accounts);
-            print_list(rt, &numbers);
-            rewrite_first(rt, form, terms, &codes, &accounts, &numbers, positions);
         }
+        Err(refusal) => print_refusal(rt, refusal),
     }
-}
-
-// The index of a byte from an index on, or the text's length.
-fn index_of(text: &[u8], at: usize, byte: u8) -> usize
-    ensures { (at ≤ result) × (result ≤ max at (length text.now)) }
-{
-    let mut i = at;
-    while i < text.len() {
-        if text[i] == byte {
-            return i;
-        }
-        i += 1;
+    print_list(rt, &codes);
+    print_list(rt, &accounts);
+    print_list(rt, &numbers);
+    if let Ok(read) = reading {
+        let listing = Listing {
+            form: read.form,
+            terms: read.terms,
+            codes: &codes,
+            accounts: &accounts,
+            numbers: &numbers,
+        };
+        rewrite_first(rt, &listing, read.positions);
     }
-    i
 }
 
 // Reads a text, or changes one that stands after a `!`.
 fn show(rt: &impl Print, text: &[u8]) {
-    if text.len() == 0 {
-        return reread(rt, text);
+    match text {
+        [b'!', changed @ ..] => change(rt, changed),
+        _ => reread(rt, text),
     }
-    if text[0] == b'!' {
-        return change(rt, &text[1..]);
-    }
-    reread(rt, text);
 }
 
 // The texts of the file stdin, each ended by a bar and byte 10; one that begins with `#` says what the next ones are.
 fn texts(rt: &impl Print, stdin: &mut impl Read) {
     let mut input = [0u8; 8192];
-    let Input::Bytes(n) = console::read_input(stdin, &mut input) else {
+    let Ok(n) = console::read_input(stdin, &mut input) else {
         return;
     };
-    let mut at = 0;
-    while at < n {
-        let end = index_of(&input, at, b'|');
-        if input[at] != b'#' {
-            show(rt, &input[at..end]);
+    let mut rest = &input[..n];
+    while let Some(end) = rest.iter().position(|&byte| byte == b'|') {
+        let text = &rest[..end];
+        if !text.starts_with(b"#") {
+            show(rt, text);
         }
-        at = end + 2;
+        rest = rest.get(end + 2..).unwrap_or(&[]);
     }
 }
 
-// The byte at an index of a text that is a head and then lines `1,1`.
-fn byte_at(head: &[u8], i: usize) -> u8 {
-    if i < head.len() {
-        return head[i];
-    }
-    match (i - head.len()) % 4 {
-        1 => b',',
-        3 => b'\n',
-        _ => b'1',
-    }
-}
-
-// Fills a text so.
+// Fills a text with a head and then lines `1,1`.
 fn fill(text: &mut [u8], head: &[u8]) {
-    let mut i = 0;
-    while i < text.len() {
-        text[i] = byte_at(head, i);
-        i += 1;
+    for (i, byte) in text.iter_mut().enumerate() {
+        *byte = match head.get(i) {
+            Some(&named) => named,
+            None => b"1,1\n"[(i - head.len()) % 4],
+        };
     }
 }
 
 // Reads the first n bytes of a text.
 fn reread_first(rt: &impl Print, text: &[u8], n: usize) {
-    if n <= text.len() {
-        reread(rt, &text[..n]);
+    if let Some(first) = text.get(..n) {
+        reread(rt, first);
     }
 }
 
@@ -247,28 +204,67 @@ fn terms(method: Method, exercised: u32, draw: u32) -> Terms {
 
 // What writing refuses: 1 for each list, and 4.
 fn writings(rt: &impl Print) {
-    let values = terms(Method::Lottery, 13, 4855);
-    rewrite(rt, Form::Shorts, values, &[1, 2, 3], &[1, 2, 3], &[5, 8]);
-    rewrite(rt, Form::Shorts, values, &[1, 2], &[1, 2, 3], &[5, 8, 2]);
-    rewrite(rt, Form::Shorts, values, &[1, 2], &[1], &[5, 8]);
+    let series = Listing {
+        form: Form::Shorts,
+        terms: terms(Method::Lottery, 13, 4855),
+        codes: &[1, 2, 3],
+        accounts: &[1, 2, 3],
+        numbers: &[5, 8, 2],
+    };
     rewrite(
         rt,
-        Form::LastNumbers,
-        terms(Method::ProRata, 4294967295, 4294967295),
-        &[4294967295, 4294967295],
-        &[4294967295, 4294967295],
-        &[4294967295, 4294967295],
+        &Listing {
+            numbers: &[5, 8],
+            ..series
+        },
+    );
+    rewrite(
+        rt,
+        &Listing {
+            codes: &[1, 2],
+            ..series
+        },
+    );
+    rewrite(
+        rt,
+        &Listing {
+            codes: &[1, 2],
+            accounts: &[1],
+            numbers: &[5, 8],
+            ..series
+        },
+    );
+    rewrite(
+        rt,
+        &Listing {
+            form: Form::LastNumbers,
+            terms: terms(Method::ProRata, 4294967295, 4294967295),
+            codes: &[4294967295, 4294967295],
+            accounts: &[4294967295, 4294967295],
+            numbers: &[4294967295, 4294967295],
+        },
     );
 }
 
 // Long lists: 15 before 11, 11 before 4 with the codes, and 4 without them.
 fn long_writings(rt: &impl Print) {
-    let few = terms(Method::Wheel, 1, 1);
     let codes = [1000000000u32; 1025];
     let large = [4294967295u32; 1025];
-    rewrite(rt, Form::Shorts, few, &codes, &large, &large);
-    rewrite_first(rt, Form::Shorts, few, &codes, &large, &large, 1024);
-    rewrite_first(rt, Form::LastNumbers, few, &large, &large, &large, 1024);
+    let coded = Listing {
+        form: Form::Shorts,
+        terms: terms(Method::Wheel, 1, 1),
+        codes: &codes,
+        accounts: &large,
+        numbers: &large,
+    };
+    let uncoded = Listing {
+        form: Form::LastNumbers,
+        codes: &large,
+        ..coded
+    };
+    rewrite(rt, &coded);
+    rewrite_first(rt, &coded, 1024);
+    rewrite_first(rt, &uncoded, 1024);
 }
 
 fn main(rt: HostRuntime) {

@@ -1,22 +1,14 @@
-// How L and R start, where their work starts, and what such a call answers.
+// How L and R start, where their work starts, and what such a call hands back.
 #![tactic(auto)]
 
 ghost use Rattle.std.specs.Prelude.{◌≡◌};
-ghost use Rattle.series.specs.Answers.{answer_of};
-ghost use Rattle.series.specs.Results.{value};
+ghost use Rattle.series.specs.Answers.{allocation_of};
 ghost use Rattle.starts.specs.Starts.{start_by, method_for, start_of};
 
-use series::{Answer, Contracts, Method, Place};
-
-// Where the work starts: at the starting place, or at none where none is needed.
-#[derive(Clone, Copy)]
-pub enum Start {
-    At(Place),
-    Undrawn,
-}
+use series::{Allocated, Contracts, Method, Place};
 
 // How a draw leads to a starting place.
-#[derive(Clone, Copy)]
+#[derive(Clone, Copy, Debug, PartialEq, Eq)]
 pub enum StartBy {
     // L: the draw in ten-thousandths of T, rounded up.
     TenThousandths,
@@ -44,18 +36,12 @@ pub fn method_for(by: StartBy) -> Method
     }
 }
 
-// What such a call answers.
-pub fn answer_for(by: StartBy, total: Contracts, start: Start) -> Answer
-    ensures { answer_of result ≡ value (record { method = method_for by; total = total.0; further = start_of start }) }
+// What such a call hands back: T and the starting place, or none where none is needed.
+pub fn answer_for(by: StartBy, total: Contracts, start: Option<Place>) -> Allocated
+    ensures { allocation_of result ≡ record { method = method_for by; total = total.0; further = start_of start } }
 {
-    match start {
-        Start::At(start) => match by {
-            StartBy::TenThousandths => Answer::Lottery { total, start },
-            StartBy::Remainder => Answer::RemainderDraw { total, start },
-        },
-        Start::Undrawn => match by {
-            StartBy::TenThousandths => Answer::LotteryUndrawn { total },
-            StartBy::Remainder => Answer::RemainderUndrawn { total },
-        },
+    match by {
+        StartBy::TenThousandths => Allocated::Lottery { total, start },
+        StartBy::Remainder => Allocated::RemainderDraw { total, start },
     }
 }

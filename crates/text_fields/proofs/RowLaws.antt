@@ -1,24 +1,21 @@
 -- Laws of the fields of a line, and of a row of numbers.
 use Prim.Native.Nat.{ℕ, zero, suc, ◌+◌, ◌≤◌, ◌<◌}
-use mathlib.Core.Path.{◌≡◌, refl, sym, ap, subst, ◌∙◌}
+use mathlib.Core.Path.{◌≡◌, refl, sym, ap, ◌∙◌}
 use mathlib.Core.Bool.{Bool, true, false, cond}
 use mathlib.Core.List.{List, [], ◌∷◌, ◌++◌, append_assoc, append-nil}
 use native.Mathlib.Numerals.{add-one}
 use lib.Dec.{eqb}
 use native.Mathlib.Omega.{arith}
 use lib.ListN.{length, take, drop, set, length-set, take-append-drop}
-use lib.Seq.{slice, take-suc-set, take_all, drop-set-lt, drop-drop, length-take-le}
+use lib.Seq.{take-suc-set, take_all, drop-set-lt, drop-drop, length-take-le}
 use Rattle.series.specs.Results.{Result, refused, value, ◌>>=◌}
 use Rattle.series.specs.Outputs.{onto}
 use Rattle.series.proofs.ResultLaws.{never}
 use Rattle.text_rules.specs.Numbers.{number}
-use Rattle.text_rules.specs.Fields.{Text, COMMA, NEWLINE, Read, field, past, field_by, end_before, read_fields}
+use Rattle.text_rules.specs.Fields.{Text, COMMA, NEWLINE, Read, ends, field, past, field_by, end_before, read_fields}
 use Rattle.text_rules.specs.Rows.{numbers, read_row}
-use Rattle.text_fields.specs.Parts.{Onward, EndFound, found_fields, number_by, NumberRead, leading, RowRead}
-use Rattle.text_fields.specs.declared.field.Found.{Found}
-use Rattle.text_fields.specs.declared.number.Field.{Field}
-use Rattle.text_fields.specs.declared.row.RowEnd.{RowEnd}
-use Rattle.text_fields.proofs.FieldLaws.{onward_start, onward-more, numbered, number_by_numbered}
+use Rattle.text_fields.specs.Parts.{found_fields, number_by, leading}
+use Rattle.text_fields.proofs.FieldLaws.{numbered, number_by_numbered}
 
 -- ---- the byte that ends a field
 
@@ -27,6 +24,12 @@ pub end_other : (part end k : ℕ) → (k ≡ 0 → ⊥) → part ≡ end_before
 unfolding end_before
 end_other part end zero ne = absurd (ne refl)
 end_other part end (suc k) ne = refl
+
+-- it is a byte that ends a field
+pub end_ends : (k : ℕ) → ends (end_before COMMA NEWLINE k) ≡ true
+unfolding end_before ends
+end_ends zero = refl
+end_ends (suc k) = refl
 
 -- ---- the fields of a line
 
@@ -60,37 +63,26 @@ fields_only (suc k) s =
     only_then 13 (field_by (end_before COMMA NEWLINE k) s) _ (field_only (end_before COMMA NEWLINE k) s)
     (λ f. only_then 13 (read_fields k f.rest) _ (fields_only k f.rest) (λ _. tt))
 
--- a field that was found
-pub record FoundAt (s : Text) (at c e : ℕ) : Type 0 where
-  pub reads : value (record { found = slice at e s; rest = drop (e + 1) s }) ≡ field_by c (drop at s)
-  pub after : at ≤ e
-  pub within : e < length s
+-- what the loop over the fields keeps: of k fields, those that are left are still to be found in the rest of the text
+pub record FieldsTo (k : ℕ) (s rest : Text) (left : ℕ) : Type 0 where
+  pub found : found_fields (read_fields k s) ≡ found_fields (read_fields left rest)
 
-pub found_at : (s : Text) (at c e : ℕ) (r : Found) → r ≡ Found.At e → EndFound c s at r → FoundAt s at c e
-found_at s at c e r is so =
-    let w = subst (EndFound c s at) is so in
-    record { reads = w.means; after = w.within.0; within = w.within.1 }
-
--- what the loop over the fields keeps: of k fields from index at on, those that are left are still to be found from index next on
-pub record FieldsTo (k : ℕ) (s : Text) (at next left : ℕ) : Type 0 where
-  pub found : found_fields (read_fields k (drop at s)) ≡ found_fields (read_fields left (drop next s))
-
-module _ {k : ℕ} {s : Text} {at next left : ℕ} (so : FieldsTo k s at next left) where
+module _ {k : ℕ} {s rest : Text} {left : ℕ} (so : FieldsTo k s rest left) where
   -- all are there
-  pub fields_all : left ≡ 0 → true ≡ found_fields (read_fields k (drop at s))
+  pub fields_all : left ≡ 0 → true ≡ found_fields (read_fields k s)
   unfolding read_fields
   fields_all e = sym (so.found ∙ rw e)
 
   module _ {j : ℕ} (e : left ≡ suc j) where
     -- one is missing
-    pub fields_missing : refused 13 ≡ field_by (end_before COMMA NEWLINE j) (drop next s) → false ≡ found_fields (read_fields k (drop at s))
+    pub fields_missing : refused 13 ≡ field_by (end_before COMMA NEWLINE j) rest → false ≡ found_fields (read_fields k s)
     unfolding read_fields
     fields_missing h = sym (so.found ∙ rw (e, ← h))
 
     -- one more is there
-    pub fields_more : {f : Text} {after : ℕ} → value (record { found = f; rest = drop after s }) ≡ field_by (end_before COMMA NEWLINE j) (drop next s) → FieldsTo k s at after j
+    pub fields_more : {f after : Text} → value (record { found = f; rest = after }) ≡ field_by (end_before COMMA NEWLINE j) rest → FieldsTo k s after j
     unfolding read_fields
-    fields_more {f} {after} h = record { found = so.found ∙ rw (e, ← h) (go (read_fields j (drop after s))) }
+    fields_more {f} {after} h = record { found = so.found ∙ rw (e, ← h) (go (read_fields j after)) }
       where
         go : (r : Result (Read (List Text))) → found_fields {A = Read (List Text)} (r >>= λ fs. value (record { found = f ∷ fs.found; rest = fs.rest })) ≡ found_fields r
         go (refused n) = refl
@@ -181,54 +173,41 @@ leading_none : (k : ℕ) (s : Text) → refused 13 ≡ number_by (end_before COM
 unfolding leading
 leading_none k s e = rw (← e)
 
--- what the loop over the numbers of a row keeps: i of them stand first in the row that was old, and those that are left are still to be read from index next on
-pub record RowTo (old : List ℕ) (s : Text) (at : ℕ) (row : List ℕ) (next i left : ℕ) : Type 0 where
-  pub reads : read_row (length old) (drop at s) ≡ in_front (take i row) (read_row left (drop next s))
-  pub leads : leading (length old) (drop at s) ≡ take i row ++ leading left (drop next s)
+-- what the loop over the numbers of a row keeps: i of them stand first in the row that was old, and those that are left are still to be read from the rest of the text
+pub record RowTo (old : List ℕ) (s : Text) (row : List ℕ) (rest : Text) (i left : ℕ) : Type 0 where
+  pub reads : read_row (length old) s ≡ in_front (take i row) (read_row left rest)
+  pub leads : leading (length old) s ≡ take i row ++ leading left rest
   pub kept : drop i row ≡ drop i old
   pub long : length row ≡ length old
-  pub onward : Onward s at next
 
-pub row_start : {old : List ℕ} {s : Text} {at left : ℕ} → left ≡ length old → RowTo old s at old at 0 left
-row_start {old} {s} {at} e =
-    record { reads = rw e (in_front_nil (read_row (length old) (drop at s))); leads = rw e; kept = refl; long = refl; onward = onward_start s at }
+pub row_start : {old : List ℕ} {s : Text} {left : ℕ} → left ≡ length old → RowTo old s old s 0 left
+row_start {old} {s} e = record { reads = rw e (in_front_nil (read_row (length old) s)); leads = rw e; kept = refl; long = refl }
 
-module _ {old : List ℕ} {s : Text} {at : ℕ} {row : List ℕ} {next i left : ℕ} (so : RowTo old s at row next i left) where
+module _ {old : List ℕ} {s : Text} {row : List ℕ} {rest : Text} {i left : ℕ} (so : RowTo old s row rest i left) where
   -- what is written where the first i numbers are those that lead
-  leads_only : i ≤ length row → leading (length old) (drop at s) ≡ take i row → row ≡ onto (leading (length old) (drop at s)) old
+  leads_only : i ≤ length row → leading (length old) s ≡ take i row → row ≡ onto (leading (length old) s) old
   unfolding onto
   leads_only le e = sym (rw (e, length-take-le i row le, ← so.kept) (take-append-drop i row))
 
   -- the row is read
-  pub row_end : left ≡ 0 → length row ≡ i → RowRead s at old row (RowEnd.At next)
+  pub row_end : left ≡ 0 → length row ≡ i → (value (record { found = row; rest = rest }) ≡ read_row (length old) s) × (row ≡ onto (leading (length old) s) old)
   unfolding read_row read_fields numbers in_front leading
-  row_end e is =
-      record {
-        means = sym (so.reads ∙ rw (e, append-nil, take_all i row (omega arith)));
-        onward = so.onward;
-        written = leads_only (omega arith) (so.leads ∙ rw (e, append-nil));
-      }
+  row_end e is = (sym (so.reads ∙ rw (e, append-nil, take_all i row (omega arith))), leads_only (omega arith) (so.leads ∙ rw (e, append-nil)))
 
   module _ {j : ℕ} (e : left ≡ suc j) where
     -- a field that is no number
-    pub row_malformed : i ≤ length row → NumberRead (end_before COMMA NEWLINE j) s next Field.Malformed → RowRead s at old row RowEnd.Malformed
+    pub row_malformed : i ≤ length row → refused 13 ≡ number_by (end_before COMMA NEWLINE j) rest → (refused 13 ≡ read_row (length old) s) × (row ≡ onto (leading (length old) s) old)
     unfolding in_front
-    row_malformed le h =
-        record {
-          means = sym (so.reads ∙ rw (e, ← numbers_none j (drop next s) h.means));
-          onward = tt;
-          written = leads_only le (so.leads ∙ rw (e, leading_none j (drop next s) h.means, append-nil));
-        }
+    row_malformed le h = (sym (so.reads ∙ rw (e, ← numbers_none j rest h)), leads_only le (so.leads ∙ rw (e, leading_none j rest h, append-nil)))
 
     -- one more number
-    pub row_more : {n after : ℕ} → i < length row → NumberRead (end_before COMMA NEWLINE j) s next (Field.Number n after) → RowTo old s at (set row i n) after (i + 1) j
+    pub row_more : {n : ℕ} {after : Text} → i < length row → value (record { found = n; rest = after }) ≡ number_by (end_before COMMA NEWLINE j) rest → RowTo old s (set row i n) after (i + 1) j
     row_more {n} {after} lt h =
         let split : take (i + 1) (set row i n) ≡ take i row ++ (n ∷ []) = rw add-one (take-suc-set row i n lt) in
-        let x : Read ℕ = record { found = n; rest = drop after s } in
+        let x : Read ℕ = record { found = n; rest = after } in
         record {
-          reads = so.reads ∙ rw (e, split, numbers_more j (drop next s) x h.means) (in_front_in_front (take i row) (n ∷ []) (read_row j (drop after s)));
-          leads = so.leads ∙ rw (e, split, leading-more j (drop next s) x h.means) (sym (append_assoc (take i row) (n ∷ []) (leading j (drop after s))));
+          reads = so.reads ∙ rw (e, split, numbers_more j rest x h) (in_front_in_front (take i row) (n ∷ []) (read_row j after));
+          leads = so.leads ∙ rw (e, split, leading-more j rest x h) (sym (append_assoc (take i row) (n ∷ []) (leading j after)));
           kept = drop-set-lt (i + 1) row i n (omega arith) ∙ sym (drop-drop 1 i row) ∙ ap (drop 1) so.kept ∙ drop-drop 1 i old;
           long = length-set row i n ∙ so.long;
-          onward = onward-more s at next after so.onward h.onward;
         }

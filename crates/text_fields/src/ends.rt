@@ -6,8 +6,5 @@ ghost use Rattle.text_rules.specs.Fields.{end_before};
 pub fn end_before(part: u8, end: u8, fields: usize) -> u8
     ensures { result ≡ end_before part end fields }
 {
-    if fields == 0 {
-        return end;
-    }
-    part
+    if fields == 0 { end } else { part }
 }

@@ -1,65 +1,39 @@
-// Fields and fixed lines of a text.
+// Fields and fixed lines at the start of a text.
 ghost use Rattle.std.specs.Prelude.{◌≡◌};
-ghost use Rattle.text_rules.specs.Fields.{ends};
-ghost use Rattle.text_fields.specs.Parts.{LineRead, EndFound};
+ghost use Rattle.text_rules.specs.Fields.{ends, field_by};
+ghost use Rattle.text_rules.specs.Names.{after_line};
+ghost use Rattle.text_fields.specs.Parts.{rest_of, read_of};
 
-// The index after a line, where the text has it.
-#[derive(Clone, Copy)]
-pub enum Line {
-    Ends(usize),
-    Missing,
-}
+use crate::Read;
 
-// The index of the byte that ends a field.
-#[derive(Clone, Copy)]
-pub enum Found {
-    At(usize),
-    Missing,
-}
-
-// Compares the text at an index with a fixed line.
-pub fn skip_line(text: &[u8], at: usize, line: &[u8]) -> Line
-    ensures { LineRead line.now text.now at result }
+// The text after a fixed line, where it begins with that.
+pub fn skip_line<'a>(text: &'a [u8], line: &[u8]) -> Option<&'a [u8]>
+    ensures { rest_of 12 result ≡ after_line line.now text.now }
 {
-    let mut i = 0;
-    let mut j = at;
-    while i < line.len() {
-        if j >= text.len() {
-            return Line::Missing;
-        }
-        if text[j] != line[i] {
-            return Line::Missing;
-        }
-        i += 1;
-        j += 1;
-    }
-    Line::Ends(j)
+    text.strip_prefix(line)
 }
 
 // Whether a byte ends a field.
 fn ends_field(byte: u8) -> bool
     ensures { result ≡ ends byte }
 {
-    if byte == b',' {
-        return true;
-    }
-    byte == b'\n'
+    matches!(byte, b',' | b'\n')
 }
 
-// Finds the end of the field at an index, where the byte `end` ends it.
-pub fn find_end(text: &[u8], at: usize, end: u8) -> Found
-    ensures { EndFound end text.now at result }
+// Reads the first field, where the byte `end` ends it.
+pub fn read_field<'a>(text: &'a [u8], end: u8) -> Option<Read<'a, &'a [u8]>>
+    ensures { read_of 13 (λ found. found.now) result ≡ field_by end text.now }
 {
-    let mut i = at;
-    while i < text.len() {
-        let byte = text[i];
+    for (i, &byte) in text.iter().enumerate() {
         if ends_field(byte) {
-            if byte == end {
-                return Found::At(i);
+            if byte != end {
+                return None;
             }
-            return Found::Missing;
+            return Some(Read {
+                found: &text[..i],
+                rest: &text[i + 1..],
+            });
         }
-        i += 1;
     }
-    Found::Missing
+    None
 }

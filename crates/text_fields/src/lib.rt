@@ -6,3 +6,10 @@ pub mod ends;
 pub mod field;
 mod number;
 pub mod row;
+
+// Something read, and the text after it.
+#[derive(Clone, Copy)]
+pub struct Read<'a, T> {
+    pub found: T,
+    pub rest: &'a [u8],
+}

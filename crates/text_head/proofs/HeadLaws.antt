@@ -6,7 +6,7 @@ use mathlib.Core.List.{List, [], ◌∷◌, ◌++◌}
 use native.Mathlib.Omega.{arith}
 use borrow.Author.Tests.{lt-ltb, le-ltb}
 use lib.ListN.{length, get_or, drop}
-use lib.Seq.{slice, slice_empty, slice-cons, drop-nil}
+use lib.Seq.{drop-nil}
 use Rattle.series.specs.Results.{Result, refused, value, ◌>>=◌}
 use Rattle.series.specs.declared.Method.{Method}
 use Rattle.series.specs.declared.Terms.{Terms}
@@ -18,7 +18,7 @@ use Rattle.text_rules.specs.Letters.{method_by, method_of}
 use Rattle.text_rules.specs.Text.{MOST_BYTES, terms_from, read_terms, read_head}
 use Rattle.text_rules.specs.declared.TermsColumns.{TermsColumns}
 use Rattle.text_rules.specs.declared.PositionColumns.{PositionColumns}
-use Rattle.text_fields.specs.Parts.{Onward, found_fields}
+use Rattle.text_fields.specs.Parts.{found_fields}
 use Rattle.text_fields.proofs.RowLaws.{Only, fields_only, before, row_by}
 
 -- ---- the method
@@ -30,12 +30,12 @@ method_other [] ne = refl
 method_other (b ∷ []) ne = absurd (ne refl)
 method_other (b ∷ c ∷ f) ne = refl
 
--- a field that is one byte of the text
-pub method-one : (a b : ℕ) (s : Text) → suc a ≡ b → b ≤ length s → method_of (slice a b s) ≡ method_by (get_or s a 0)
+-- a field that is one byte
+pub method-one : (f : Text) → length f ≡ 1 → method_of f ≡ method_by (get_or f 0 0)
 unfolding method_of
-method-one a b s e le =
-    let lt : a < b = omega arith in
-    rw (slice-cons a b s 0 lt le, e, slice_empty b s)
+method-one [] e = absurd (omega arith)
+method-one (b ∷ []) e = refl
+method-one (b ∷ c ∷ f) e = absurd (omega arith)
 
 -- ---- line 2
 
@@ -118,10 +118,6 @@ module _ (k : ℕ) (s : Text) {m : Read Text} (hm : value m ≡ field_by COMMA s
         go (value fs) h = last fs.rest (numbers fs.found) h
 
 -- ---- lines 1 to 3
-
--- what is read from the start of the text on, line by line, stays within it
-pub onward-within : (s : Text) (i j k : ℕ) → Onward s 0 i → Onward s i j → Onward s j k → k ≤ length s
-onward-within s i j k first second third = omega arith
 
 pub head_long : (s : Text) → MOST_BYTES < length s → refused 11 ≡ read_head s
 unfolding read_head

@@ -1,106 +1,85 @@
 // Reading lines 1 to 3 of a text.
 #![tactic(auto)]
 
-ghost use Rattle.std.specs.Prelude.{◌≡◌, ◌≤◌, length, drop};
-ghost use Rattle.std.proofs.Math.Seq.{slice};
+ghost use Rattle.std.specs.Prelude.{◌≡◌, ◌≤◌};
 ghost use Rattle.series.specs.Results.{refused};
 ghost use Rattle.series.specs.Answers.{number_of};
+ghost use Rattle.text_rules.specs.Fields.{Text};
 ghost use Rattle.text_rules.specs.Letters.{method_of};
-ghost use Rattle.text_rules.specs.Text.{read_terms};
+ghost use Rattle.text_rules.specs.Rows.{read_row};
+ghost use Rattle.text_rules.specs.Text.{read_terms, read_head};
 ghost use Rattle.text_words.specs.Parts.{named_means};
-ghost use Rattle.text_head.specs.Parts.{TermsMalformed, TermsRead, HeadRead};
+ghost use Rattle.text_head.specs.Parts.{FirstField, terms_means, head_means};
 
-use forms::Form;
-use series::{Contracts, DEFAULT_INCREMENT, Refusal, Terms, terms_of};
-use text_fields::field::{Found, find_end};
-use text_fields::row::{RowEnd, has_fields, read_row};
-use text_words::letters::{Named, method_by};
-use text_words::names::{
-    PositionNames, TermsNames, read_position_names, read_terms_names, terms_numbers,
-};
+use series::{Contracts, DEFAULT_INCREMENT, Method, Refusal, Terms, terms_of};
+use text_fields::Read;
+use text_fields::field::read_field;
+use text_fields::row::{has_fields, read_row};
+use text_rules::PositionColumns;
+use text_words::letters::method_by;
+use text_words::names::{read_position_names, read_terms_names, terms_numbers};
 
-// The values of line 2, and the index after it.
+// Lines 1 to 3: the values of line 2, the columns of the position lines, and these lines.
 #[derive(Clone, Copy)]
-pub enum TermsLine {
-    Terms(Terms, usize),
-    Refused(Refusal),
+pub struct Head<'a> {
+    pub terms: Terms,
+    pub columns: PositionColumns,
+    pub lines: &'a [u8],
 }
 
-// Lines 1 to 3: the values of line 2, the form of the position lines, whether each begins with a code, and the index after them.
-#[derive(Clone, Copy)]
-pub enum HeadLines {
-    Head(Terms, Form, bool, usize),
-    Refused(Refusal),
-}
-
-// The method that the field from one index to another names: exactly W, P, L or R.
-fn read_method(text: &[u8], from: usize, to: usize) -> Named
-    requires { (from ≤ to) × (to ≤ length text.now) }
-    ensures { named_means result ≡ method_of (slice from to text.now) }
+// The method that a field names: exactly W, P, L or R.
+fn read_method(field: &[u8]) -> Option<Method>
+    ensures { named_means result ≡ method_of field.now }
 {
-    let bytes = to - from;
-    if bytes != 1 {
-        return Named::Unknown;
+    match field {
+        [letter] => method_by(*letter),
+        _ => None,
     }
-    method_by(text[from])
 }
 
-// The refusal of a line 2 whose numbers are malformed: its fields are counted before the method is looked at.
-fn refuse_terms(text: &[u8], at: usize, comma: usize, numbers: usize) -> Refusal
-    requires { TermsMalformed numbers text.now at comma }
-    ensures { refused (number_of result) ≡ read_terms numbers (drop at text.now) }
+// The refusal of a line 2 whose numbers, after the first field, are malformed: its fields are counted before the method is looked at.
+fn refuse_terms(first: Read<&[u8]>, numbers: usize) -> Refusal
+    requires { refused 13 ≡ read_row numbers first.rest.now }
+    ensures { (s : Text) → FirstField s first.entry → refused (number_of result) ≡ read_terms numbers s }
 {
-    if !has_fields(text, comma + 1, numbers) {
+    if !has_fields(first.rest, numbers) {
         return Refusal::Malformed;
     }
-    let Named::Method(_) = read_method(text, at, comma) else {
-        return Refusal::UnknownMethod;
-    };
-    Refusal::Malformed
+    match read_method(first.found) {
+        Some(_) => Refusal::Malformed,
+        None => Refusal::UnknownMethod,
+    }
 }
 
-// Line 2 at an index, with so many numbers after the method: its fields first, then the method, then the numbers. The increment keeps its value where none is given.
-fn read_terms(text: &[u8], at: usize, numbers: usize) -> TermsLine
+// Line 2, with so many numbers after the method: its fields first, then the method, then the numbers. The increment keeps its value where none is given.
+fn read_terms<'a>(text: &'a [u8], numbers: usize) -> Result<Read<'a, Terms>, Refusal>
     requires { numbers ≤ 3 }
-    ensures { TermsRead numbers text.now at result }
+    ensures { terms_means result ≡ read_terms numbers text.now }
 {
-    let Found::At(comma) = find_end(text, at, b',') else {
-        return TermsLine::Refused(Refusal::Malformed);
-    };
+    let first = read_field(text, b',').ok_or(Refusal::Malformed)?;
     let mut values = [0, 0, DEFAULT_INCREMENT];
-    let RowEnd::At(next) = read_row(text, comma + 1, &mut values[..numbers]) else {
-        return TermsLine::Refused(refuse_terms(text, at, comma, numbers));
+    let Some(rest) = read_row(first.rest, &mut values[..numbers]) else {
+        return Err(refuse_terms(first, numbers));
     };
-    let Named::Method(method) = read_method(text, at, comma) else {
-        return TermsLine::Refused(Refusal::UnknownMethod);
-    };
-    let terms = terms_of(
-        method,
-        Contracts(values[0]),
-        values[1],
-        Contracts(values[2]),
-    );
-    TermsLine::Terms(terms, next)
+    let method = read_method(first.found).ok_or(Refusal::UnknownMethod)?;
+    let [exercised, draw, increment] = values;
+    let found = terms_of(method, Contracts(exercised), draw, Contracts(increment));
+    Ok(Read { found, rest })
 }
 
 // Lines 1 to 3 of a text that is not too long.
-pub fn read_head(text: &[u8]) -> HeadLines
-    ensures { HeadRead text.now result }
+pub fn read_head<'a>(text: &'a [u8]) -> Result<Head<'a>, Refusal>
+    ensures { head_means result ≡ read_head text.now }
 {
     if text.len() > 32768 {
-        return HeadLines::Refused(Refusal::TextTooLong);
+        return Err(Refusal::TextTooLong);
     }
-    let TermsNames::Line(names, line2) = read_terms_names(text, 0) else {
-        return HeadLines::Refused(Refusal::NamesLine);
-    };
-    match read_terms(text, line2, terms_numbers(names)) {
-        TermsLine::Refused(refusal) => HeadLines::Refused(refusal),
-        TermsLine::Terms(terms, line3) => {
-            let PositionNames::Line(columns, lines) = read_position_names(text, line3) else {
-                return HeadLines::Refused(Refusal::NamesLine);
-            };
-            let form = columns.form;
-            HeadLines::Head(terms, form, columns.coded, lines)
-        }
-    }
+    let names = read_terms_names(text).ok_or(Refusal::NamesLine)?;
+    let terms = read_terms(names.rest, terms_numbers(names.found))?;
+    let columns = read_position_names(terms.rest).ok_or(Refusal::NamesLine)?;
+    Ok(Head {
+        terms: terms.found,
+        columns: columns.found,
+        lines: columns.rest,
+    })
 }

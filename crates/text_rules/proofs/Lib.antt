@@ -11,7 +11,6 @@ pub mod FieldLaws
 pub mod NumberLaws
 pub mod SpellingLaws
 pub mod DecimalLaws
-pub mod CopyLaws
 pub mod ReadLaws
 pub mod ReadingLaws
 pub mod LengthLaws

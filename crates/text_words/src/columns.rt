@@ -10,24 +10,15 @@ pub fn terms_columns(terms: Terms) -> TermsColumns
     ensures { result ≡ terms_columns terms }
 {
     if terms.increment.0 == DEFAULT_INCREMENT {
-        return TermsColumns::MethodExercisedDraw;
+        TermsColumns::MethodExercisedDraw
+    } else {
+        TermsColumns::MethodExercisedDrawIncrement
     }
-    TermsColumns::MethodExercisedDrawIncrement
 }
 
-// Whether two lists hold the same numbers.
+// Whether two lists hold the same numbers: `==`, with what the rules of a text call it as its promise.
 pub fn same_numbers(first: &[u32], second: &[u32]) -> bool
     ensures { result ≡ same_numbers first.now second.now }
 {
-    if first.len() != second.len() {
-        return false;
-    }
-    let mut i = 0;
-    while i < first.len() {
-        if first[i] != second[i] {
-            return false;
-        }
-        i += 1;
-    }
-    true
+    first == second
 }

@@ -5,33 +5,20 @@ ghost use Rattle.text_words.specs.Parts.{named_means};
 
 use series::Method;
 
-// The method that a letter names.
-#[derive(Clone, Copy)]
-pub enum Named {
-    Method(Method),
-    Unknown,
-}
-
 // The method of the letter W, P, L or R.
-pub fn method_by(letter: u8) -> Named
+pub fn method_by(letter: u8) -> Option<Method>
     ensures { named_means result ≡ method_by letter }
 {
-    if letter == b'W' {
-        return Named::Method(Method::Wheel);
+    match letter {
+        b'W' => Some(Method::Wheel),
+        b'P' => Some(Method::ProRata),
+        b'L' => Some(Method::Lottery),
+        b'R' => Some(Method::RemainderDraw),
+        _ => None,
     }
-    if letter == b'P' {
-        return Named::Method(Method::ProRata);
-    }
-    if letter == b'L' {
-        return Named::Method(Method::Lottery);
-    }
-    if letter == b'R' {
-        return Named::Method(Method::RemainderDraw);
-    }
-    Named::Unknown
 }
 
-// The letter of a method.
+// The letter of a method. No impl of `From`: it would stand in `series`, beside `Method`, and letters belong to texts.
 pub fn letter_of(method: Method) -> u8
     ensures { result ≡ letter method }
 {

@@ -1,25 +1,12 @@
 // The names lines: fixed byte strings that the reader compares and the writer writes. Line 3 is put together from the names of its columns.
 ghost use Rattle.std.specs.Prelude.{◌≡◌};
-ghost use Rattle.text_rules.specs.Names.{terms_numbers, form_name, account_line, positions_line, in_forms, line3};
-ghost use Rattle.text_words.specs.Parts.{TermsNamesRead, PositionNamesRead};
+ghost use Rattle.text_rules.specs.Names.{terms_line, line1, terms_numbers, form_name, account_line, positions_line, in_forms, line3, read_names};
+ghost use Rattle.text_fields.specs.Parts.{read_of};
 
 use forms::Form;
-use text_fields::field::{Line, skip_line};
+use text_fields::Read;
+use text_fields::field::skip_line;
 use text_rules::{PositionColumns, TermsColumns};
-
-// The columns that line 1 names, with the index after it.
-#[derive(Clone, Copy)]
-pub enum TermsNames {
-    Line(TermsColumns, usize),
-    Unknown,
-}
-
-// The columns that line 3 names, with the index after it.
-#[derive(Clone, Copy)]
-pub enum PositionNames {
-    Line(PositionColumns, usize),
-    Unknown,
-}
 
 // Line 1 without the increment.
 pub const TERMS_NAMES: [u8; 22] = *b"method,exercised,draw\n";
@@ -39,17 +26,17 @@ pub const SHORT_NAME: [u8; 6] = *b"short\n";
 // The name of the last column in a text with last numbers.
 pub const LAST_NAME: [u8; 5] = *b"last\n";
 
-// Reads line 1 at an index.
-pub fn read_terms_names(text: &[u8], at: usize) -> TermsNames
-    ensures { TermsNamesRead text.now at result }
+// Reads line 1: the columns that it names.
+pub fn read_terms_names<'a>(text: &'a [u8]) -> Option<Read<'a, TermsColumns>>
+    ensures { read_of 12 (λ found. found) result ≡ read_names terms_line line1 text.now }
 {
-    if let Line::Ends(next) = skip_line(text, at, &TERMS_NAMES) {
-        return TermsNames::Line(TermsColumns::MethodExercisedDraw, next);
+    if let Some(rest) = skip_line(text, &TERMS_NAMES) {
+        let found = TermsColumns::MethodExercisedDraw;
+        return Some(Read { found, rest });
     }
-    let Line::Ends(next) = skip_line(text, at, &INCREMENT_NAMES) else {
-        return TermsNames::Unknown;
-    };
-    TermsNames::Line(TermsColumns::MethodExercisedDrawIncrement, next)
+    let rest = skip_line(text, &INCREMENT_NAMES)?;
+    let found = TermsColumns::MethodExercisedDrawIncrement;
+    Some(Read { found, rest })
 }
 
 // How many numbers line 2 has after the method.
@@ -63,36 +50,34 @@ pub fn terms_numbers(columns: TermsColumns) -> usize
 }
 
 // Reads line 3 from the name of its last column on.
-fn read_form_name(text: &[u8], at: usize, coded: bool) -> PositionNames
-    ensures { PositionNamesRead (λ c. form_name c.form) (in_forms coded) text.now at result }
+fn read_form_name<'a>(text: &'a [u8], coded: bool) -> Option<Read<'a, PositionColumns>>
+    ensures { read_of 12 (λ found. found) result ≡ read_names (λ c. form_name c.form) (in_forms coded) text.now }
 {
-    if let Line::Ends(next) = skip_line(text, at, &SHORT_NAME) {
+    if let Some(rest) = skip_line(text, &SHORT_NAME) {
         let form = Form::Shorts;
-        return PositionNames::Line(PositionColumns { form, coded }, next);
+        let found = PositionColumns { form, coded };
+        return Some(Read { found, rest });
     }
-    let Line::Ends(next) = skip_line(text, at, &LAST_NAME) else {
-        return PositionNames::Unknown;
-    };
+    let rest = skip_line(text, &LAST_NAME)?;
     let form = Form::LastNumbers;
-    PositionNames::Line(PositionColumns { form, coded }, next)
+    let found = PositionColumns { form, coded };
+    Some(Read { found, rest })
 }
 
 // Reads line 3 from the name of the account column on.
-fn read_account_name(text: &[u8], at: usize, coded: bool) -> PositionNames
-    ensures { PositionNamesRead account_line (in_forms coded) text.now at result }
+fn read_account_name<'a>(text: &'a [u8], coded: bool) -> Option<Read<'a, PositionColumns>>
+    ensures { read_of 12 (λ found. found) result ≡ read_names account_line (in_forms coded) text.now }
 {
-    let Line::Ends(next) = skip_line(text, at, &ACCOUNT_NAME) else {
-        return PositionNames::Unknown;
-    };
-    read_form_name(text, next, coded)
+    let rest = skip_line(text, &ACCOUNT_NAME)?;
+    read_form_name(rest, coded)
 }
 
-// Reads line 3 at an index: with the name of the code column or without it.
-pub fn read_position_names(text: &[u8], at: usize) -> PositionNames
-    ensures { PositionNamesRead positions_line line3 text.now at result }
+// Reads line 3, with the name of the code column or without it: the columns that it names.
+pub fn read_position_names<'a>(text: &'a [u8]) -> Option<Read<'a, PositionColumns>>
+    ensures { read_of 12 (λ found. found) result ≡ read_names positions_line line3 text.now }
 {
-    let Line::Ends(next) = skip_line(text, at, &CODE_NAME) else {
-        return read_account_name(text, at, false);
-    };
-    read_account_name(text, next, true)
+    match skip_line(text, &CODE_NAME) {
+        Some(rest) => read_account_name(rest, true),
+        None => read_account_name(text, false),
+    }
 }

@@ -107,9 +107,6 @@ pub record Left (vs old : List ℕ) (at : ℕ) (left new : List ℕ) (i : ℕ) :
   pub after : i + length left ≡ at + length vs
   pub long : length new ≡ length old
 
-pub put_start : (vs old : List ℕ) (at : ℕ) → Left vs old at vs old at
-put_start vs old at = record { text = refl; after = refl; long = refl }
-
 -- of the bytes that are left, the first ones are put
 pub put_more : (vs old : List ℕ) (at : ℕ) (ws left new : List ℕ) (i : ℕ) (new' : List ℕ) (j : ℕ) → at + length vs ≤ length old → Left vs old at (ws ++ left) new i → Put ws new i new' j → Left vs old at left new' j
 put_more vs old at ws left new i new' j fits so p =

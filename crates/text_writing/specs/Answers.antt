@@ -1,10 +1,9 @@
--- What writing answers.
-use Rattle.std.specs.Prelude.{ℕ}
-use Rattle.series.specs.Answers.{number_of}
-use Rattle.series.specs.Results.{Result, refused, value}
-use Rattle.text_writing.specs.declared.Writing.{Writing}
+-- What writing comes to.
+use Rattle.std.specs.Prelude.{ℕ, Result as Result·}
+use Rattle.series.specs.Answers.{outcome_of}
+use Rattle.series.specs.Results.{Result}
+use Rattle.series.specs.declared.Refusal.{Refusal}
 
--- what each answer of writing hands back: the length of the text
-abbrev pub writing_of : Writing → Result ℕ
-writing_of (Writing.Written n) = value n
-writing_of (Writing.Refused r) = refused (number_of r)
+-- the length of the text, or the number of the refusal
+abbrev pub writing_of : Result· ℕ Refusal → Result ℕ
+writing_of w = outcome_of (λ n. n) w

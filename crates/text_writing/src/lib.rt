@@ -6,142 +6,107 @@ mod put;
 mod row;
 mod table;
 
-ghost use Rattle.std.specs.Prelude.{◌≤◌, [], ◌∷◌, ◌++◌, length};
-ghost use Rattle.text_rules.specs.Rows.{write_rows, rows_of};
-ghost use Rattle.text_rules.specs.Text.{write_head};
-ghost use Rattle.text_rules.specs.Calls.{write_into, table_into, note_into, WritingCall};
+ghost use Rattle.std.specs.Prelude.{◌≤◌, length};
+ghost use Rattle.forms.specs.Forms.{listing_of};
+ghost use Rattle.text_rules.specs.Text.{terms_columns, write_head};
+ghost use Rattle.text_rules.specs.Calls.{write_into, table_into, note_into, lines_into, WritingCall};
 ghost use Rattle.text_writing.specs.Answers.{writing_of};
-ghost use Rattle.text_writing.specs.Parts.{Put, FiveColumns};
+ghost use Rattle.text_writing.specs.Parts.{Put};
+ghost use Rattle.text_writing.specs.Columns.{columns_of};
 ghost use Rattle.text_writing.specs.Tables.{tables_into};
 
-use forms::Form;
+use forms::{Form, Listing};
+use put::put_line;
+use row::put_row;
 use series::{Refusal, Terms};
-use text_rules::TermsColumns;
+pub use table::Table;
+use table::both_within;
 use text_words::columns::{same_numbers, terms_columns};
 use text_words::letters::letter_of;
 use text_words::names::terms_numbers;
 
-// What writing a text answers: its length, or a refusal.
-#[derive(Clone, Copy)]
-pub enum Writing {
-    Written(usize),
-    Refused(Refusal),
-}
-
 // Puts lines 1 to 3 at the start of a head, and hands back their length.
-fn put_head(head: &mut [u8], columns: TermsColumns, coded: bool, form: Form, terms: Terms) -> usize
+fn put_head(head: &mut [u8], form: Form, terms: Terms, coded: bool) -> usize
     requires { 86 ≤ length head.old }
-    ensures { Put (write_head (record { terms = columns; coded = coded }) form terms) head.old 0 head.new result }
+    ensures { Put (write_head (record { terms = terms_columns terms; coded = coded }) form terms) head.old 0 head.new result }
 {
+    let columns = terms_columns(terms);
     let line2 = names::put_terms_line(head, 0, columns);
-    let method = terms.method;
-    head[line2] = letter_of(method);
-    head[line2 + 1] = b',';
-    let exercised = terms.exercised;
-    let increment = terms.increment;
-    let row = [exercised.0, terms.draw, increment.0];
-    let numbers = terms_numbers(columns);
-    let line3 = row::put_row(head, line2 + 2, &row[..numbers], b',', b'\n');
+    let letter = [letter_of(terms.method), b','];
+    let numbers = put_line(head, line2, &letter);
+    let row = [terms.exercised.0, terms.draw, terms.increment.0];
+    let line3 = put_row(head, numbers, &row[..terms_numbers(columns)], b',', b'\n');
     names::put_positions_line(head, line3, form, coded)
 }
 
-// Writes the text of a series in a form, without its codes where every code is its account, and without its increment where it is the one that is meant where none is given. A refusal writes nothing, and bytes past the text are kept.
-pub fn write(
-    form: Form,
-    terms: Terms,
-    codes: &[u32],
-    accounts: &[u32],
-    numbers: &[u32],
-    text: &mut [u8],
-) -> Writing
-    ensures { WritingCall (write_into (record { form = form; terms = terms; codes = codes.now; accounts = accounts.now; numbers = numbers.now }) (length text.old)) (writing_of result) text.old text.new }
+// Writes the text of a listing, without its codes where every code is its account, and without its increment where it is the one that is meant where none is given. A refusal writes nothing, and bytes past the text are kept.
+pub fn write(listing: &Listing, text: &mut [u8]) -> Result<usize, Refusal>
+    ensures { WritingCall (write_into (listing_of listing.now) (length text.old)) (writing_of result) text.old text.new }
 {
-    let coded = !same_numbers(codes, accounts);
-    let mut lines = [0u8; 86];
-    let n = put_head(&mut lines, terms_columns(terms), coded, form, terms);
-    let head = &lines[..n];
-    let left_out = table::left_out_of(coded);
-    match table::measure(head, left_out, accounts, accounts, codes, accounts, numbers) {
-        Writing::Refused(refusal) => Writing::Refused(refusal),
-        Writing::Written(bytes) => {
-            if bytes > 32768 {
-                return Writing::Refused(Refusal::TextTooLong);
-            }
-            if text.len() < bytes {
-                return Writing::Refused(Refusal::OutputTooShort);
-            }
-            Writing::Written(table::put_lines(
-                text, 0, head, left_out, accounts, accounts, codes, accounts, numbers,
-            ))
-        }
+    let coded = !same_numbers(listing.codes, listing.accounts);
+    let mut lines = [0; 86];
+    let n = put_head(&mut lines, listing.form, listing.terms, coded);
+    let columns = [listing.codes, listing.accounts, listing.numbers];
+    let left_out = usize::from(!coded);
+    let table = Table {
+        names: &lines[..n],
+        columns: &columns[left_out..],
+    };
+    let bytes = table.measure()?;
+    if bytes > 32768 {
+        return Err(Refusal::TextTooLong);
     }
+    if text.len() < bytes {
+        return Err(Refusal::OutputTooShort);
+    }
+    Ok(table.put(text, 0))
 }
 
-// Puts a table at the start of a text, and hands back its length.
-fn put_table(text: &mut [u8], names: &[u8], accounts: &[u32], counts: &[u32]) -> usize
-    requires five_columns { FiveColumns accounts.now accounts.now accounts.now accounts.now counts.now }
-    requires counts_in_bounds { length (names.now ++ write_rows (rows_of (accounts.now ∷ counts.now ∷ []))) ≤ length text.old }
-    ensures { Put (names.now ++ write_rows (rows_of (accounts.now ∷ counts.now ∷ []))) text.old 0 text.new result }
+// Writes a table alone. A refusal writes nothing, and bytes past the table are kept.
+fn write_alone(table: &Table, text: &mut [u8]) -> Result<usize, Refusal>
+    ensures { WritingCall (lines_into table.now.names.now (columns_of table.now) (length text.old)) (writing_of result) text.old text.new }
 {
-    table::put_lines(
-        text, 0, names, 3, accounts, accounts, accounts, accounts, counts,
-    )
+    both_within(table.measure(), Ok(0), text.len())?;
+    Ok(table.put(text, 0))
 }
 
 // Writes a table: a names line as given, and a line for each account and its count. A refusal writes nothing, and bytes past the table are kept.
-pub fn write_table(names: &[u8], accounts: &[u32], counts: &[u32], text: &mut [u8]) -> Writing
-    ensures { WritingCall (table_into names.now accounts.now counts.now (length text.old)) (writing_of result) text.old text.new }
-{
-    let table = table::measure(names, 3, accounts, accounts, accounts, accounts, counts);
-    match table::both_within(table, Writing::Written(0), text.len()) {
-        Writing::Refused(refusal) => Writing::Refused(refusal),
-        Writing::Written(_) => Writing::Written(put_table(text, names, accounts, counts)),
-    }
-}
-
-// Writes two tables, one after the other: each account and its count, and each account and its two ranges. A refusal writes nothing, and bytes past the tables are kept.
-pub fn write_tables(
+#[tactic(auto, unfolding(text_rules::specs::Calls::table_into))]
+pub fn write_table(
     names: &[u8],
     accounts: &[u32],
     counts: &[u32],
-    range_names: &[u8],
-    firsts: &[u32],
-    lasts: &[u32],
-    firsts2: &[u32],
-    lasts2: &[u32],
     text: &mut [u8],
-) -> Writing
-    ensures { WritingCall (tables_into names.now (accounts.now ∷ counts.now ∷ []) range_names.now (accounts.now ∷ firsts.now ∷ lasts.now ∷ firsts2.now ∷ lasts2.now ∷ []) (length text.old)) (writing_of result) text.old text.new }
+) -> Result<usize, Refusal>
+    ensures { WritingCall (table_into names.now accounts.now counts.now (length text.old)) (writing_of result) text.old text.new }
 {
-    let table = table::measure(names, 3, accounts, accounts, accounts, accounts, counts);
-    let ranges = table::measure(range_names, 0, accounts, firsts, lasts, firsts2, lasts2);
-    match table::both_within(table, ranges, text.len()) {
-        Writing::Refused(refusal) => Writing::Refused(refusal),
-        Writing::Written(_) => {
-            let at = put_table(text, names, accounts, counts);
-            Writing::Written(table::put_lines(
-                text,
-                at,
-                range_names,
-                0,
-                accounts,
-                firsts,
-                lasts,
-                firsts2,
-                lasts2,
-            ))
-        }
-    }
+    let columns = [accounts, counts];
+    let table = Table {
+        names,
+        columns: &columns,
+    };
+    write_alone(&table, text)
+}
+
+// Writes two tables, one after the other. A refusal writes nothing, and bytes past the tables are kept.
+pub fn write_tables(first: &Table, second: &Table, text: &mut [u8]) -> Result<usize, Refusal>
+    ensures { WritingCall (tables_into first.now.names.now (columns_of first.now) second.now.names.now (columns_of second.now) (length text.old)) (writing_of result) text.old text.new }
+{
+    both_within(first.measure(), second.measure(), text.len())?;
+    let at = first.put(text, 0);
+    Ok(second.put(text, at))
 }
 
 // Writes a note: a line as given, and a line with the number. A refusal writes nothing, and bytes past the note are kept.
-pub fn write_note(names: &[u8], number: u32, text: &mut [u8]) -> Writing
+#[tactic(auto, unfolding(text_rules::specs::Calls::note_into))]
+pub fn write_note(names: &[u8], number: u32, text: &mut [u8]) -> Result<usize, Refusal>
     ensures { WritingCall (note_into names.now number (length text.old)) (writing_of result) text.old text.new }
 {
-    let row = [number];
-    if text.len() < names.len() + row::row_length(&row) {
-        return Writing::Refused(Refusal::OutputTooShort);
-    }
-    let at = put::put_line(text, 0, names);
-    Writing::Written(row::put_row(text, at, &row, b',', b'\n'))
+    let numbers = [number];
+    let columns: [&[u32]; 1] = [&numbers];
+    let table = Table {
+        names,
+        columns: &columns,
+    };
+    write_alone(&table, text)
 }

@@ -11,6 +11,7 @@ use text_words::names::{
 };
 
 // Puts line 1.
+#[tactic(auto, unfolding(text_rules::specs::Names::terms_line, series::specs::Ascii::ascii))]
 pub fn put_terms_line(text: &mut [u8], at: usize, columns: TermsColumns) -> usize
     requires { at + length (terms_line columns) ≤ length text.old }
     ensures { Put (terms_line columns) text.old at text.new result }
@@ -22,6 +23,7 @@ pub fn put_terms_line(text: &mut [u8], at: usize, columns: TermsColumns) -> usiz
 }
 
 // Puts the name of the code column, where there is one.
+#[tactic(auto, using(crate::proofs::PutLaws::put_nil), unfolding(text_rules::specs::Names::code_name, series::specs::Ascii::ascii))]
 fn put_code_name(text: &mut [u8], at: usize, coded: bool) -> usize
     requires { at + length (code_name coded) ≤ length text.old }
     ensures { Put (code_name coded) text.old at text.new result }
@@ -33,6 +35,7 @@ fn put_code_name(text: &mut [u8], at: usize, coded: bool) -> usize
 }
 
 // Puts the name of the last column.
+#[tactic(auto, unfolding(text_rules::specs::Names::form_name, series::specs::Ascii::ascii))]
 fn put_form_name(text: &mut [u8], at: usize, form: Form) -> usize
     requires { at + length (form_name form) ≤ length text.old }
     ensures { Put (form_name form) text.old at text.new result }

@@ -1,4 +1,4 @@
-// Puts bytes at an index of a text and hands back the index after them: a fixed line, and a number.
+// Puts bytes at an index of a text and hands back the index after them: a fixed line, and a number. A part of the text handed back in the place of the index would need a promise of what is lent; so each promise is one equation (`Put`).
 ghost use Rattle.std.specs.Prelude.{◌+◌, ◌≤◌, length};
 ghost use Rattle.text_rules.specs.Fields.{write_number};
 ghost use Rattle.text_writing.specs.Parts.{Put};
@@ -11,7 +11,7 @@ pub fn put_line(text: &mut [u8], at: usize, line: &[u8]) -> usize
     ensures { Put line.now text.old at text.new result }
 {
     let end = at + line.len();
-    text[at..end].copy_from_slice(line);
+    lists::copy(line, &mut text[at..end]);
     end
 }
 
@@ -22,9 +22,7 @@ pub fn put_number(text: &mut [u8], at: usize, n: u32, end: u8) -> usize
 {
     let digits = digits_of(n);
     let mut rest = n;
-    let mut i = digits;
-    while 0 < i {
-        i -= 1;
+    for i in (0..digits).rev() {
         text[at + i] = b'0' + (rest % 10) as u8;
         rest /= 10;
     }

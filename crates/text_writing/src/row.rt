@@ -1,4 +1,4 @@
-// Writing a row: numbers as fields. One byte parts them, and one ends the last: in a line a comma and byte 10.
+// Numbers as fields: how long they are, and a row of them. One byte parts them, and one ends the last: in a line a comma and byte 10.
 ghost use Rattle.std.specs.Prelude.{◌+◌, ◌≤◌, length};
 ghost use Rattle.text_rules.specs.Rows.{write_parted};
 ghost use Rattle.text_writing.specs.Parts.{Put, RowLength};
@@ -12,25 +12,21 @@ pub fn row_length(row: &[u32]) -> usize
     requires { length row.now ≤ 1024 }
     ensures { RowLength row.now result }
 {
-    let mut sum: usize = 0;
-    let mut i = 0;
-    while i < row.len() {
-        sum += digits_of(row[i]) + 1;
-        i += 1;
+    let mut sum = 0;
+    for &number in row {
+        sum += digits_of(number) + 1;
     }
     sum
 }
 
-// Puts a row, parted by one byte and ended by another.
+// Puts a row, parted by one byte and ended by another. A table puts its rows from its columns: to gather each row first took a quarter more time.
 pub fn put_row(text: &mut [u8], at: usize, row: &[u32], part: u8, end: u8) -> usize
     requires { at + length (write_parted part end row.now) ≤ length text.old }
     ensures { Put (write_parted part end row.now) text.old at text.new result }
 {
     let mut next = at;
-    let mut i = 0;
-    while i < row.len() {
-        next = put_number(text, next, row[i], end_before(part, end, row.len() - i - 1));
-        i += 1;
+    for (i, &number) in row.iter().enumerate() {
+        next = put_number(text, next, number, end_before(part, end, row.len() - i - 1));
     }
     next
 }

@@ -1,18 +1,16 @@
--- `any_above` meets its contract. The invariant: no count passed is above the most. The measure is what is left of the list.
-use mathlib.Core.Path.{refl, sym, ◌∙◌}
-use native.Mathlib.Numerals.{add-one}
-use native.Mathlib.Omega.{arith}
-use Rattle.activity_rules.proofs.CountLaws.{above-found, above_passed, above-end}
+-- `any_above` meets its contract: what `any` answers of the test by which the definition recurses.
+use Rattle.std.proofs.Common.{refl, ◌∙◌, ◌||◌, ltb, rules, tests}
+use Rattle.std.specs.List.{list_any}
+use Rattle.std.proofs.lemmas.Iterator.{YieldsList-from_slice}
+use Rattle.std.proofs.lemmas.Iterator.Search.{any_from_yields_List}
+use Rattle.std.proofs.lemmas.List.Recursion.{same_from_clauses}
+use Rattle.series.specs.Series.{MOST_CONTRACTS}
+use Rattle.activity_rules.specs.Activity.{any_above}
 use Rattle.activity.proofs.any_above.Goals as goal
 
-pub loop-i-init : goal.loop-i-init
-loop-i-init c = (omega arith, refl)
-
-pub returns-then-counts-i-gt10000000 : goal.returns-then-counts-i-gt10000000
-returns-then-counts-i-gt10000000 c = above-found _ c.loop-i.i (omega arith) c.if-counts-i-gt10000000.true ∙ sym c.loop-i.invariant.1
-
-pub loop-i-preserved : goal.loop-i-preserved
-loop-i-preserved c = (omega arith, c.loop-i.invariant.1 ∙ rw add-one (above_passed _ c.loop-i.i (omega arith) c.if-counts-i-gt10000000.false))
-
 pub returns : goal.returns
-returns c = above-end _ c.loop-i.i (omega arith) ∙ sym c.loop-i.invariant.1
+unfolding any_above
+returns c =
+    let counts = c.args.counts.now in
+    any_from_yields_List (ltb MOST_CONTRACTS) _ _ _ c.any.ensures.ran (YieldsList-from_slice counts cc) (λ x b q k. search (rules, tests))
+    ∙ same_from_clauses (list_any (ltb MOST_CONTRACTS)) any_above (λ n r. ltb MOST_CONTRACTS n || r) refl (λ n ns. refl) (λ n ns. refl) counts

@@ -1,47 +1,30 @@
 -- `allocate_started` meets its contract: a refused call keeps its output, any other is assigned by the draw.
-use Prim.Native.Nat.{ℕ}
-use mathlib.Core.Path.{◌≡◌, refl, sym, ap, ◌∙◌}
-use mathlib.Core.List.{List}
-use lib.ListN.{length}
-use lib.Seq.{length-take-le}
-use Rattle.series.specs.Series.{Series, DEFAULT_INCREMENT, terms_of}
-use Rattle.series.specs.Refusals.{verdict}
-use Rattle.series.proofs.CallLaws.{codes_unseen}
-use Rattle.series.proofs.IncrementLaws.{call_by_terms}
-use Rattle.judging.specs.Judged.{judged_of}
-use Rattle.judging.proofs.CallLaws.{fits, call_refused}
-use Rattle.starts.specs.Starts.{method_for}
-use Rattle.starts.proofs.StartLaws.{started_not_wheel}
-use Rattle.allocation.proofs.AllocateLaws.{started_asked, started_called}
+use Rattle.std.proofs.Common.{sym}
+use Rattle.std.proofs.lemmas.Result.{err_from_is_err_and}
+use Rattle.allocation.proofs.AllocateLaws.{fitting, room_for, started_refused, started_list, started_leads, started_called}
 use Rattle.allocation.proofs.allocate_started.Goals as goal
 
-pub slice_bounds-assign_by_draw-end : goal.slice_bounds-assign_by_draw-end
-slice_bounds-assign_by_draw-end c =
-    let called : List ℕ → Series = λ codes. record { terms = terms_of (method_for c.args.by) c.args.exercised.0 c.args.draw DEFAULT_INCREMENT; codes = codes; accounts = c.args.accounts.now; shorts = c.args.shorts.now } in
-    let judged : (codes : List ℕ) → judged_of c.judge_uncoded.result ≡ verdict ((called codes)) (length c.args.amounts.now) = λ codes. (rw (c.terms_of-terms.ensures, c.method_for.ensures) at c.judge_uncoded.ensures) ∙ codes_unseen ((called codes)).terms c.args.accounts.now codes c.args.accounts.now c.args.shorts.now _ (started_not_wheel c.args.by) in
-    fits ((called c.args.accounts.now)) c.args.amounts.now c.in-Accepted.total.0 (sym (ap judged_of c.in-Accepted.is) ∙ judged c.args.accounts.now)
+pub returns-in_err-total : goal.returns-in_err-total
+returns-in_err-total c =
+    let p = err_from_is_err_and c.from_residual.result c.from_residual.ensures.1 in
+    rw (p.1, p.2) (started_refused c.args.by c.args.exercised.0 c.args.draw c.args.accounts.now c.args.shorts.now c.args.amounts.now _ (rw (c.terms_of-terms.ensures, c.method_for.ensures) at c.in_err-total.ensures))
 
-pub slice_bounds-assign_by_draw-end-in-Accepted : goal.slice_bounds-assign_by_draw-end-in-Accepted
-slice_bounds-assign_by_draw-end-in-Accepted c =
-    let called : List ℕ → Series = λ codes. record { terms = terms_of (method_for c.args.by) c.args.exercised.0 c.args.draw DEFAULT_INCREMENT; codes = codes; accounts = c.args.accounts.now; shorts = c.args.shorts.now } in
-    let judged : (codes : List ℕ) → judged_of c.judge_uncoded.result ≡ verdict ((called codes)) (length c.args.amounts.now) = λ codes. (rw (c.terms_of-terms.ensures, c.method_for.ensures) at c.judge_uncoded.ensures) ∙ codes_unseen ((called codes)).terms c.args.accounts.now codes c.args.accounts.now c.args.shorts.now _ (started_not_wheel c.args.by) in
-    sym (length-take-le (length c.args.shorts.now) c.args.amounts.now (fits ((called c.args.accounts.now)) c.args.amounts.now c.in-Accepted.total.0 (sym (ap judged_of c.in-Accepted.is) ∙ judged c.args.accounts.now)))
+pub slice_bounds-assign_by_draw-end : goal.slice_bounds-assign_by_draw-end
+slice_bounds-assign_by_draw-end c = fitting c.args.by c.args.exercised.0 c.args.draw c.args.accounts.now c.args.shorts.now c.args.amounts.now _ (rw (c.terms_of-terms.ensures, c.method_for.ensures) at c.in_ok-total.ensures)
+
+pub slice_bounds-assign_by_draw-end-2 : goal.slice_bounds-assign_by_draw-end-2
+slice_bounds-assign_by_draw-end-2 c = sym (room_for c.args.by c.args.exercised.0 c.args.draw c.args.accounts.now c.args.shorts.now c.args.amounts.now _ (rw (c.terms_of-terms.ensures, c.method_for.ensures) at c.in_ok-total.ensures))
+
+pub invariant_of-list : goal.invariant_of-list
+invariant_of-list c =
+    let list = started_list c.args.by c.args.exercised.0 c.args.draw c.args.accounts.now c.args.shorts.now c.args.amounts.now _ (rw (c.terms_of-terms.ensures, c.method_for.ensures) at c.in_ok-total.ensures) in
+    record { few = list.0.few; sum = list.1; small = list.0.total_most; some = list.0.exercised_some; most = list.0.exercised_most }
 
 pub assign_by_draw-start-requires : goal.assign_by_draw-start-requires
 assign_by_draw-start-requires c =
-    let called : List ℕ → Series = λ codes. record { terms = terms_of (method_for c.args.by) c.args.exercised.0 c.args.draw DEFAULT_INCREMENT; codes = codes; accounts = c.args.accounts.now; shorts = c.args.shorts.now } in
-    let judged : (codes : List ℕ) → judged_of c.judge_uncoded.result ≡ verdict ((called codes)) (length c.args.amounts.now) = λ codes. (rw (c.terms_of-terms.ensures, c.method_for.ensures) at c.judge_uncoded.ensures) ∙ codes_unseen ((called codes)).terms c.args.accounts.now codes c.args.accounts.now c.args.shorts.now _ (started_not_wheel c.args.by) in
-    let all = started_asked c.args.by ((called c.args.accounts.now)) c.args.amounts.now c.in-Accepted.total.0 (sym (ap judged_of c.in-Accepted.is) ∙ judged c.args.accounts.now) refl in record { judged_series = all.0; leads = all.1 }
+    record { room = room_for c.args.by c.args.exercised.0 c.args.draw c.args.accounts.now c.args.shorts.now c.args.amounts.now _ (rw (c.terms_of-terms.ensures, c.method_for.ensures) at c.in_ok-total.ensures); leads = started_leads c.args.by c.args.exercised.0 c.args.draw c.args.accounts.now c.args.shorts.now c.args.amounts.now _ (rw (c.terms_of-terms.ensures, c.method_for.ensures) at c.in_ok-total.ensures) }
 
-pub returns-in-Refused : goal.returns-in-Refused
-returns-in-Refused c =
-    let called : List ℕ → Series = λ codes. record { terms = terms_of (method_for c.args.by) c.args.exercised.0 c.args.draw DEFAULT_INCREMENT; codes = codes; accounts = c.args.accounts.now; shorts = c.args.shorts.now } in
-    let judged : (codes : List ℕ) → judged_of c.judge_uncoded.result ≡ verdict ((called codes)) (length c.args.amounts.now) = λ codes. (rw (c.terms_of-terms.ensures, c.method_for.ensures) at c.judge_uncoded.ensures) ∙ codes_unseen ((called codes)).terms c.args.accounts.now codes c.args.accounts.now c.args.shorts.now _ (started_not_wheel c.args.by) in
-    λ t codes given. call_by_terms t _ _ _ _ codes c.args.accounts.now c.args.shorts.now (started_not_wheel c.args.by) given (call_refused ((called codes)) c.args.amounts.now _ (sym (ap judged_of c.in-Refused.is) ∙ judged codes))
-
-pub returns-in-Accepted : goal.returns-in-Accepted
-returns-in-Accepted c =
-    let called : List ℕ → Series = λ codes. record { terms = terms_of (method_for c.args.by) c.args.exercised.0 c.args.draw DEFAULT_INCREMENT; codes = codes; accounts = c.args.accounts.now; shorts = c.args.shorts.now } in
-    let judged : (codes : List ℕ) → judged_of c.judge_uncoded.result ≡ verdict ((called codes)) (length c.args.amounts.now) = λ codes. (rw (c.terms_of-terms.ensures, c.method_for.ensures) at c.judge_uncoded.ensures) ∙ codes_unseen ((called codes)).terms c.args.accounts.now codes c.args.accounts.now c.args.shorts.now _ (started_not_wheel c.args.by) in
-    λ t codes given. call_by_terms t _ _ _ DEFAULT_INCREMENT codes c.args.accounts.now c.args.shorts.now (started_not_wheel c.args.by) given
-    (rw c.answer_for.ensures (started_called c.args.by ((called codes)) c.args.amounts.now c.in-Accepted.total.0 (sym (ap judged_of c.in-Accepted.is) ∙ judged codes) refl _ _ c.assign_by_draw-start.ensures.result_value c.assign_by_draw-start.ensures.amounts_after))
+pub returns : goal.returns
+returns c =
+    rw c.answer_for.ensures
+    (started_called c.args.by c.args.exercised.0 c.args.draw c.args.accounts.now c.args.shorts.now c.args.amounts.now _ (rw (c.terms_of-terms.ensures, c.method_for.ensures) at c.in_ok-total.ensures) _ _ c.assign_by_draw-start.ensures.result_value c.assign_by_draw-start.ensures.amounts_after)

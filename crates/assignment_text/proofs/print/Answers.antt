@@ -8,4 +8,4 @@ use Rattle.assignment_text.proofs.print.Goals as goal
 
 pub returns : goal.returns
 unfolding ascii
-returns c = allocation_printed (assigned_lines c.args.accounts.now c.args.amounts.now) c.args.output.now _ c.answer_written.result _ (rw (table_is c.args.accounts.now c.args.amounts.now (length c.args.output.now) c.requires.0 c.requires.1) at c.write_table-writing.ensures) c.answer_written.ensures
+returns c = allocation_printed (assigned_lines c.args.accounts.now c.args.amounts.now) c.args.output.now _ c.answer_written.result _ (rw (table_is c.args.accounts.now c.args.amounts.now (length c.args.output.now) c.requires.0 c.requires.1) at c.write_table.ensures) c.answer_written.ensures

@@ -1,13 +1,16 @@
--- `print_with_ranges` meets its contract: the lists that it lends have a number for each position.
-use mathlib.Core.Path.{sym}
-use lib.Seq.{length-take-le}
+-- `print_with_ranges` meets its contract: the two tables that are written are what is printed.
+use mathlib.Core.List.{◌++◌}
+use lib.ListN.{length}
+use Rattle.series.specs.Ascii.{ascii}
+use Rattle.responses.specs.Printed.{assigned_lines, range_lines}
+use Rattle.responses.proofs.ResponseLaws.{allocation_printed}
+use Rattle.assignment_text.proofs.PrintLaws.{tables_are}
 use Rattle.assignment_text.proofs.print_with_ranges.Goals as goal
 
-pub slice_bounds-print_ranges-end : goal.slice_bounds-print_ranges-end
-slice_bounds-print_ranges-end c = sym (length-take-le _ _ c.requires.0.few)
-
-pub slice_bounds-print_ranges-end-2 : goal.slice_bounds-print_ranges-end-2
-slice_bounds-print_ranges-end-2 c = sym (length-take-le _ _ c.requires.0.few)
-
-pub print_ranges-requires : goal.print_ranges-requires
-print_ranges-requires c = (c.requires.0, record { first_numbers = c.requires.1; first2_numbers = length-take-le _ _ c.requires.0.few; last2_numbers = length-take-le _ _ c.requires.0.few; small = c.requires.2 })
+pub returns : goal.returns
+unfolding ascii
+returns c =
+    let accounts = c.args.accounts.now in
+    let tables = tables_are accounts c.args.shorts.now c.args.amounts.now (length c.args.output.now) c.requires.0 in
+    allocation_printed (assigned_lines accounts c.args.amounts.now ++ range_lines accounts c.args.shorts.now) c.args.output.now _ c.answer_written.result _
+    (rw (c.fill.ensures accounts, tables) at c.write_tables.ensures) c.answer_written.ensures

@@ -2,5 +2,5 @@
 use mathlib.Core.Path.{refl}
 use Rattle.dilbreth.proofs.hand_length.Goals as goal
 
-pub returns-in-Refused : goal.returns-in-Refused
-returns-in-Refused c = rw c.in-Refused.is (record { answers = c.number.ensures; hands_number = refl })
+pub returns-in-Err : goal.returns-in-Err
+returns-in-Err c = rw c.in-Err.is (record { answers = c.from.ensures; hands_number = refl })

@@ -1,20 +1,40 @@
 -- `change_lasts` meets its contract: a refusal of the list stands in its form, and what was judged is written by shorts.
-use mathlib.Core.Path.{sym, ap, ◌∙◌}
+use mathlib.Core.Path.{◌≡◌, ap, ◌∙◌}
+use native.Mathlib.Omega.{arith}
 use lib.ListN.{length}
+use Rattle.std.specs.Prelude.{Err}
+use Rattle.std.proofs.lemmas.Grind.{common_steps}
+use Rattle.series.specs.Answers.{number_of, outcome_of}
 use Rattle.series.specs.Refusals.{list_verdict}
+use Rattle.forms.specs.Forms.{in_form, differences, listing_of}
 use Rattle.forms.specs.declared.Form.{Form}
 use Rattle.forms.proofs.FillLaws.{fill_whole}
+use Rattle.forms.proofs.FormLaws.{in_form_is, by_differences}
 use Rattle.text_rules.specs.Calls.{changed_into}
-use Rattle.rising_lists.specs.Judged.{judged_of}
 use Rattle.text_rules.proofs.WritingLaws.{refused-writes}
-use Rattle.form_change.proofs.CallLaws.{list-refused, written_other}
+use Rattle.form_change.proofs.CallLaws.{verdict_on, list-refused, written_other}
 use Rattle.form_change.proofs.change_lasts.Goals as goal
+use Rattle.form_change.proofs.change_lasts.Goals.{After-in_form}
 
-pub returns-in-Refused : goal.returns-in-Refused
-returns-in-Refused c = let shorts = fill_whole c.args.lasts.now c.args.shorts.now _ c.requires c.fill_shorts.ensures in
-    refused-writes (changed_into ((record { form = Form.LastNumbers; terms = c.args.terms; codes = c.args.codes.now; accounts = c.args.accounts.now; numbers = c.args.lasts.now })) (length c.args.output.now)) c.args.output.now _
-    (list-refused ((record { form = Form.LastNumbers; terms = c.args.terms; codes = c.args.codes.now; accounts = c.args.accounts.now; numbers = c.args.lasts.now })) (length c.args.output.now) _ _ (ap judged_of (sym c.in-Refused.is) ∙ c.judge_list.ensures ∙ ap (list_verdict c.args.terms.method c.args.codes.now c.args.accounts.now) shorts) c.refusal_in.ensures)
+-- the shorts were filled in
+filled : (c : After-in_form) → c.fill_shorts.new.shorts ≡ differences 0 c.args.listing.now.numbers.now
+filled c = fill_whole c.args.listing.now.numbers.now c.args.shorts.now _ c.requires.room c.fill_shorts.ensures
 
-pub returns-in-Accepted : goal.returns-in-Accepted
-returns-in-Accepted c = let shorts = fill_whole c.args.lasts.now c.args.shorts.now _ c.requires c.fill_shorts.ensures in
-    written_other ((record { form = Form.LastNumbers; terms = c.args.terms; codes = c.args.codes.now; accounts = c.args.accounts.now; numbers = c.args.lasts.now })) _ _ c.args.output.now _ _ (ap judged_of (sym c.in-Accepted.is) ∙ c.judge_list.ensures ∙ ap (list_verdict c.args.terms.method c.args.codes.now c.args.accounts.now) shorts) shorts c.write.ensures
+-- the verdict on them, in the form of the list
+told : (c : After-in_form) → outcome_of (λ T. T.0) c.in_form.result ≡ verdict_on (listing_of c.args.listing.now)
+told c =
+    let l = c.args.listing.now in
+    let verdict = c.judge_list-judged.ensures ∙ ap (λ s. list_verdict l.terms.method s.codes s.accounts s.shorts) c.series-series.ensures in
+    by_differences l.form l.terms.method l.codes.now l.accounts.now l.numbers.now _ _ c.requires.form (filled c) (in_form_is (λ T. T.0) Form.LastNumbers _ _ c.in_form.ensures ∙ ap (in_form Form.LastNumbers) verdict)
+
+pub returns-in_err-in_form : goal.returns-in_err-in_form
+returns-in_err-in_form c =
+    let p = (goal.at.returns-in_err-in_form c).After-in_form in
+    let is : c.from_residual.result ≡ Err c.in_err-in_form.field-0.0 = grind (arith, common_steps) in
+    let refusal = list-refused (listing_of c.args.listing.now) (length c.args.output.now) (number_of c.in_err-in_form.field-0.0) (rw c.in_err-in_form.was at (told p)) in
+    rw is (refused-writes (changed_into (listing_of c.args.listing.now) (length c.args.output.now)) c.args.output.now _ refusal)
+
+pub returns : goal.returns
+returns c =
+    let p = (goal.at.returns c).After-in_form in
+    written_other (listing_of c.args.listing.now) c.fill_shorts.new.shorts _ c.args.output.now _ _ (rw c.in_ok-in_form.was at (told p)) (rw c.requires.form (filled p)) (rw c.requires.form c.write.ensures)

@@ -1,11 +1,6 @@
 -- `fill_lasts` meets its contract. The loop's invariant: the last numbers of the positions passed are filled in.
-use Prim.Native.Nat.{◌-◌}
-use lib.ListN.{length}
 use Rattle.form_change.proofs.FillLaws.{Summing}
 use Rattle.form_change.proofs.fill_lasts.Given as goal
 
 abbrev pub invariant-loop-i : goal.invariant-loop-i
 invariant-loop-i l = Summing l.shorts l.initial.lasts l.lasts l.sum l.i
-
-abbrev pub decreases-loop-i : goal.decreases-loop-i
-decreases-loop-i l = length l.shorts - l.i

@@ -21,7 +21,7 @@ bounds-shorts-i c = c.if-shorts-i.false
 
 pub loop-i-preserved : goal.loop-i-preserved
 loop-i-preserved c = let long = fill_long c.args.lasts.now c.args.shorts.now c.loop-i.shorts c.loop-i.before c.loop-i.i c.loop-i.invariant in
-    subst (λ v. Filling c.args.lasts.now c.args.shorts.now (set c.loop-i.shorts c.loop-i.i v) (get_or c.args.lasts.now c.loop-i.i 0) (c.loop-i.i + 1)) (sym c.difference.ensures)
+    subst (λ v. Filling c.args.lasts.now c.args.shorts.now (set c.loop-i.shorts c.loop-i.i v) (get_or c.args.lasts.now c.loop-i.i 0) (c.loop-i.i + 1)) (sym c.saturating_sub.ensures)
     (fill_next c.args.lasts.now c.args.shorts.now c.loop-i.shorts c.loop-i.before c.loop-i.i c.loop-i.invariant c.loop-i-test.true (omega (arith, long, c.if-shorts-i.false)))
 
 pub shape_of-shorts : goal.shape_of-shorts

@@ -1,11 +1,6 @@
--- `last_end` meets its contract. The invariant: the records from the next on end where all of them end. The measure is what is left of the records.
-use Prim.Native.Nat.{◌-◌}
-use lib.ListN.{length}
+-- `last_end` meets its contract. The invariant: the records from the next on end where all of them end.
 use Rattle.jobs.proofs.Ends.{Seen}
 use Rattle.jobs.proofs.last_end.Given as goal
 
-abbrev pub invariant-loop-i : goal.invariant-loop-i
-invariant-loop-i l = Seen l.jobs l.i l.end
-
-abbrev pub decreases-loop-i : goal.decreases-loop-i
-decreases-loop-i l = length l.jobs - l.i
+abbrev pub invariant-loop-job : goal.invariant-loop-job
+invariant-loop-job l = Seen l.jobs l.job-index l.end

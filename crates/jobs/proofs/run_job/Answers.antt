@@ -5,4 +5,6 @@ use Rattle.jobs.proofs.JobLaws.{on-stretch}
 use Rattle.jobs.proofs.run_job.Goals as goal
 
 pub returns : goal.returns
-returns c = on-stretch c.args.job c.args.accounts.now c.args.shorts.now c.args.amounts.now _ c.allocate_job-answer.result (c.args.job.first + c.args.job.positions - c.args.job.first) (omega arith) c.allocate_job-answer.ensures
+returns c =
+    let positions = c.args.job.first + c.args.job.positions - c.args.job.first in
+    on-stretch c.args.job c.args.accounts.now c.args.shorts.now c.args.amounts.now _ c.recorded.result positions (omega arith) (c.recorded.ensures _ c.call_job-outcome.ensures.answered) c.call_job-outcome.ensures.written

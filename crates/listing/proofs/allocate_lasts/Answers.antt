@@ -1,20 +1,7 @@
--- `allocate_lasts` meets its contract: the list that it lends has a number for each position.
-use mathlib.Core.Path.{sym}
-use lib.Seq.{length-take-le}
+-- `allocate_lasts` meets its contract: a list that is too long is refused for its length.
+use Rattle.forms.specs.Forms.{listing_of}
 use Rattle.listing.proofs.ListingLaws.{called_too_long}
 use Rattle.listing.proofs.allocate_lasts.Goals as goal
 
-pub returns-then-n-gt4096 : goal.returns-then-n-gt4096
-returns-then-n-gt4096 c = called_too_long c.args.terms c.args.codes.now c.args.accounts.now c.args.lasts.now _ c.args.amounts.now _ c.if-n-gt4096.true c.allocate.ensures
-
-pub slice_bounds-allocate_by_shorts-end : goal.slice_bounds-allocate_by_shorts-end
-slice_bounds-allocate_by_shorts-end c = sym (length-take-le _ _ c.if-n-le128.true)
-
-pub allocate_by_shorts-requires : goal.allocate_by_shorts-requires
-allocate_by_shorts-requires c = length-take-le _ _ c.if-n-le128.true
-
-pub slice_bounds-allocate_by_shorts-end-2 : goal.slice_bounds-allocate_by_shorts-end-2
-slice_bounds-allocate_by_shorts-end-2 c = sym (length-take-le _ _ c.if-n-gt4096.false)
-
-pub allocate_by_shorts-requires-2 : goal.allocate_by_shorts-requires-2
-allocate_by_shorts-requires-2 c = length-take-le _ _ c.if-n-gt4096.false
+pub returns-then-n-gt-MOST_POSITIONS : goal.returns-then-n-gt-MOST_POSITIONS
+returns-then-n-gt-MOST_POSITIONS c = called_too_long (listing_of c.args.listing.now) _ c.args.amounts.now _ c.requires c.if-n-gt-MOST_POSITIONS.true (rw c.series.ensures at c.allocate.ensures)

@@ -1,11 +1,9 @@
 -- `judge_list` meets its contract.
-use mathlib.Core.Path.{sym, ap, ◌∙◌}
-use Rattle.forms.specs.Forms.{list_verdict_in}
-use Rattle.listing.proofs.ListingLaws.{by_shorts}
+use mathlib.Core.Path.{ap, ◌∙◌}
+use Rattle.series.specs.Refusals.{list_verdict}
+use Rattle.forms.proofs.FormLaws.{by_shorts}
 use Rattle.listing.proofs.judge_list.Goals as goal
 
 pub returns-in-Shorts : goal.returns-in-Shorts
-returns-in-Shorts c = c.judge_list.ensures ∙ by_shorts c.args.form c.args.method c.args.codes.now c.args.accounts.now c.args.numbers.now c.in-Shorts.is
-
-pub returns-in-LastNumbers : goal.returns-in-LastNumbers
-returns-in-LastNumbers c = c.judge_lasts.ensures ∙ ap (λ f. list_verdict_in f c.args.method c.args.codes.now c.args.accounts.now c.args.numbers.now) (sym c.in-LastNumbers.is)
+returns-in-Shorts c = let l = c.args.listing.now in
+    c.judge_list.ensures ∙ ap (λ s. list_verdict l.terms.method s.codes s.accounts s.shorts) c.series-series.ensures ∙ by_shorts l.form l.terms.method l.codes.now l.accounts.now l.numbers.now c.in-Shorts.is

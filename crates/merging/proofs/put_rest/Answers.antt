@@ -1,16 +1,10 @@
--- A turn writes one more number into each output.
-use mathlib.Core.Path.{sym}
+-- `put_rest` meets its contract: what is left of the list stands in its place in both outputs.
 use native.Mathlib.Omega.{arith}
-use lib.ListN.{drop, length-drop}
-use lib.Seq.{get_or-drop}
-use Rattle.merging.proofs.WalkLaws.{written_next}
+use Rattle.merging.proofs.WriteLaws.{put_part}
 use Rattle.merging.proofs.put_rest.Goals as goal
 
-pub loop-i-preserved : goal.loop-i-preserved
-loop-i-preserved c = (
-  omega arith,
-  (
-    written_next c.args.accounts.now c.args.at (drop c.args.begin c.args.list_accounts.now) c.loop-i.i c.loop-i.accounts _ c.loop-i.invariant.1.0 (omega (arith, length-drop c.args.begin c.args.list_accounts.now)) (sym (get_or-drop c.args.begin c.args.list_accounts.now c.loop-i.i 0)),
-    written_next c.args.shorts.now c.args.at (drop c.args.begin c.args.list_shorts.now) c.loop-i.i c.loop-i.shorts _ c.loop-i.invariant.1.1 (omega (arith, length-drop c.args.begin c.args.list_shorts.now, c.requires.even)) (sym (get_or-drop c.args.begin c.args.list_shorts.now c.loop-i.i 0)),
-  ),
-)
+pub returns : goal.returns
+returns c = record {
+  puts_accounts = put_part c.args.accounts.now _ c.args.list.now.accounts.now c.args.begin c.args.at _ c.copy.ensures.after (omega arith) (omega arith);
+  puts_shorts = put_part c.args.shorts.now _ c.args.list.now.shorts.now c.args.begin c.args.at _ c.copy-2.ensures.after (omega arith) (omega arith);
+}

@@ -1,46 +1,48 @@
 -- `read_head` meets its contract: each line's answer is what the next step of the definition goes on with.
-use mathlib.Core.Path.{sym, ap, subst, ◌∙◌}
+use mathlib.Core.Path.{◌≡◌}
 use native.Mathlib.Omega.{arith}
-use Rattle.text_rules.specs.Names.{terms_numbers}
-use Rattle.text_words.specs.Parts.{terms_names_mean, TermsNamesRead, position_names_mean, PositionNamesRead}
-use Rattle.text_words.specs.declared.names.TermsNames.{TermsNames}
-use Rattle.text_head.specs.Parts.{TermsRead}
-use Rattle.text_head.specs.declared.TermsLine.{TermsLine}
-use Rattle.text_rules.proofs.LengthLaws.{few-numbers}
-use Rattle.text_head.proofs.HeadLaws.{onward-within, head_long, head_names, head_terms, head_columns, head_all}
+use Rattle.std.specs.Prelude.{Err}
+use Rattle.std.proofs.lemmas.Grind.{common_steps}
+use Rattle.series.specs.Results.{value}
+use Rattle.series.specs.declared.Refusal.{Refusal}
+use Rattle.text_rules.specs.Names.{terms_line, terms_numbers, line1, read_names}
+use Rattle.text_rules.specs.Text.{read_terms}
+use Rattle.text_head.proofs.HeadLaws.{head_long, head_names, head_terms, head_columns, head_all}
 use Rattle.text_head.proofs.read_head.Goals as goal
+use Rattle.text_head.proofs.read_head.Goals.{In_ok-names, In_ok-terms}
+
+-- line 1
+names : (c : In_ok-names) → value (record { found = c.in_ok-names.names.found; rest = c.in_ok-names.names.rest.now }) ≡ read_names terms_line line1 c.args.text.now
+names c = rw c.in_ok-names.ensures.ok_part at c.read_terms_names.ensures
+
+-- line 2
+terms : (c : In_ok-terms) → value (record { found = c.in_ok-terms.terms.found; rest = c.in_ok-terms.terms.rest.now }) ≡ read_terms (terms_numbers c.in_ok-names.names.found) c.in_ok-names.names.rest.now
+terms c = rw (← c.terms_numbers.ensures) c.in_ok-terms.ensures
 
 pub returns-then-text-gt32768 : goal.returns-then-text-gt32768
-returns-then-text-gt32768 c = record { means = head_long _ c.if-text-gt32768.true; within = tt }
+returns-then-text-gt32768 c = head_long _ c.if-text-gt32768.true
 
-pub returns-in_default : goal.returns-in_default
-returns-in_default c = record { means = head_names _ (omega arith) (ap (terms_names_mean _) (sym c.in_default.is) ∙ c.read_terms_names.ensures.means); within = tt }
+pub returns-in_err-names : goal.returns-in_err-names
+returns-in_err-names c =
+    let is : c.from_residual.result ≡ Err Refusal.NamesLine = grind (arith, common_steps) in
+    let missing = rw c.in_err-names.ensures.ok_part at c.read_terms_names.ensures in
+    rw is (head_names _ c.if-text-gt32768.false missing)
 
-pub read_terms-requires : goal.read_terms-requires
-read_terms-requires c = rw c.terms_numbers.ensures (few-numbers c.in-Line.names)
+pub returns-in_err-terms : goal.returns-in_err-terms
+returns-in_err-terms c =
+    let p = goal.at.returns-in_err-terms c in
+    let is : c.from_residual-in_err-terms.result ≡ Err c.in_err-terms.field-0.0 = grind (arith, common_steps) in
+    rw is (head_terms _ c.if-text-gt32768.false (names p.In_ok-names) (rw c.terms_numbers.ensures at c.in_err-terms.ensures))
 
-pub returns-in_default-read_position_names : goal.returns-in_default-read_position_names
-returns-in_default-read_position_names c =
-    let names : TermsNamesRead c.args.text.now 0 (TermsNames.Line c.in-Line.names c.in-Line.line2) = subst (TermsNamesRead _ _) c.in-Line.is c.read_terms_names.ensures in
-    let line2 : TermsRead (terms_numbers c.in-Line.names) c.args.text.now c.in-Line.line2 c.read_terms.result = rw (← c.terms_numbers.ensures) c.read_terms.ensures in
-    let terms : TermsRead (terms_numbers c.in-Line.names) c.args.text.now c.in-Line.line2 (TermsLine.Terms c.in-Terms.terms c.in-Terms.line3) = subst (TermsRead _ _ _) c.in-Terms.is (line2) in
-    let bad = ap (position_names_mean _) (sym c.in_default-read_position_names.is) ∙ c.read_position_names.ensures.means in
-    record { means = head_columns _ c.if-text-gt32768.false (names).means (terms).means bad; within = tt }
+pub returns-in_err-columns : goal.returns-in_err-columns
+returns-in_err-columns c =
+    let p = goal.at.returns-in_err-columns c in
+    let is : c.from_residual-in_err-columns.result ≡ Err Refusal.NamesLine = grind (arith, common_steps) in
+    let missing = rw c.in_err-columns.ensures.ok_part at c.read_position_names.ensures in
+    rw is (head_columns _ c.if-text-gt32768.false (names p.In_ok-names) (terms p.In_ok-terms) missing)
 
-pub returns-in-Refused : goal.returns-in-Refused
-returns-in-Refused c =
-    let line2 : TermsRead (terms_numbers c.in-Line.names) c.args.text.now c.in-Line.line2 c.read_terms.result = rw (← c.terms_numbers.ensures) c.read_terms.ensures in
-    let names : TermsNamesRead c.args.text.now 0 (TermsNames.Line c.in-Line.names c.in-Line.line2) = subst (TermsNamesRead _ _) c.in-Line.is c.read_terms_names.ensures in
-    let bad = (subst (TermsRead _ _ _) c.in-Refused.is (line2)).means in
-    record { means = head_terms _ c.if-text-gt32768.false (names).means bad; within = tt }
-
-pub returns-in-Line-read_position_names : goal.returns-in-Line-read_position_names
-returns-in-Line-read_position_names c =
-    let names : TermsNamesRead c.args.text.now 0 (TermsNames.Line c.in-Line.names c.in-Line.line2) = subst (TermsNamesRead _ _) c.in-Line.is c.read_terms_names.ensures in
-    let line2 : TermsRead (terms_numbers c.in-Line.names) c.args.text.now c.in-Line.line2 c.read_terms.result = rw (← c.terms_numbers.ensures) c.read_terms.ensures in
-    let terms : TermsRead (terms_numbers c.in-Line.names) c.args.text.now c.in-Line.line2 (TermsLine.Terms c.in-Terms.terms c.in-Terms.line3) = subst (TermsRead _ _ _) c.in-Terms.is (line2) in
-    let columns = subst (PositionNamesRead _ _ _ _) c.in-Line-read_position_names.is c.read_position_names.ensures in
-    record {
-      means = head_all _ c.if-text-gt32768.false (names).means (terms).means columns.means;
-      within = onward-within _ _ _ _ (names).onward (terms).onward columns.onward;
-    }
+pub returns : goal.returns
+returns c =
+    let p = goal.at.returns c in
+    let columns = rw c.in_ok-columns.ensures.ok_part at c.read_position_names.ensures in
+    head_all _ c.if-text-gt32768.false (names p.In_ok-names) (terms p.In_ok-terms) columns

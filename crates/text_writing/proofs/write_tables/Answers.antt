@@ -1,46 +1,52 @@
--- `write_tables` meets its contract: two heads with their lines, measured, and put one after the other.
-use mathlib.Core.Path.{◌≡◌, refl, sym, ap, ◌∙◌}
-use mathlib.Core.Bool.{false}
-use mathlib.Core.List.{[], ◌∷◌}
+-- `write_tables` meets its contract: two tables, measured, and put one after the other.
+use mathlib.Core.Path.{◌≡◌}
 use native.Mathlib.Omega.{arith}
-use lib.ListN.{length}
-use Rattle.text_rules.specs.Calls.{head_and_lines, length_of}
+use Rattle.std.proofs.Common.{rules}
+use Rattle.series.specs.Results.{refused}
+use Rattle.series.specs.Answers.{number_of}
 use Rattle.text_writing.specs.Answers.{writing_of}
-use Rattle.text_writing.specs.Tables.{both_within}
-use Rattle.text_writing.proofs.WriteLaws.{TablesFit, series_unwritten, none_unwritten, measured_columns, tables_refused, tables_fit, tables_put}
+use Rattle.text_writing.specs.Columns.{columns_of}
+use Rattle.text_writing.proofs.WriteLaws.{even_known, tables_refused, tables_fit, tables_put}
 use Rattle.text_writing.proofs.write_tables.Goals as goal
 
-pub put_table-at-requires : goal.put_table-at-requires
-put_table-at-requires c =
-    let within-is : writing_of c.both_within.result ≡ both_within (length_of (head_and_lines c.args.names.now ((c.args.accounts.now ∷ c.args.counts.now ∷ [])))) (length_of (head_and_lines c.args.range_names.now
-    ((c.args.accounts.now ∷ c.args.firsts.now ∷ c.args.lasts.now ∷ c.args.firsts2.now ∷ c.args.lasts2.now ∷ [])))) (length c.args.text.now) = rw (c.measure-table.ensures, c.measure-ranges.ensures) at c.both_within.ensures in
-    let fit : TablesFit c.args.names.now ((c.args.accounts.now ∷ c.args.counts.now ∷ [])) c.args.range_names.now
-    ((c.args.accounts.now ∷ c.args.firsts.now ∷ c.args.lasts.now ∷ c.args.firsts2.now ∷ c.args.lasts2.now ∷ [])) c.args.text.now =
-    tables_fit c.args.names.now ((c.args.accounts.now ∷ c.args.counts.now ∷ [])) c.args.range_names.now ((c.args.accounts.now ∷ c.args.firsts.now ∷ c.args.lasts.now ∷ c.args.firsts2.now ∷ c.args.lasts2.now ∷ [])) c.args.text.now _ (sym (ap writing_of c.in-Written.is) ∙ within-is) in
-    let f = fit in
-    record { five_columns = measured_columns _ 3 c.args.accounts.now c.args.accounts.now c.args.accounts.now c.args.accounts.now c.args.counts.now _ (series_unwritten false c.args.accounts.now c.args.accounts.now (λ _. refl)) f.first; counts_in_bounds = omega (arith, f.fits) }
+pub returns-in_err-both_within : goal.returns-in_err-both_within
+returns-in_err-both_within c =
+    let first = c.args.first.now in
+    let second = c.args.second.now in
+    let err : writing_of c.from_residual.result ≡ refused (number_of c.in_err-both_within.field-0.0) = search rules in
+    rw err (tables_refused first.names.now (columns_of first) second.names.now (columns_of second) c.args.text.now _ (rw (c.measure.ensures, c.measure-2.ensures) at c.in_err-both_within.ensures))
 
-pub put_lines-requires : goal.put_lines-requires
-put_lines-requires c =
-    let within-is : writing_of c.both_within.result ≡ both_within (length_of (head_and_lines c.args.names.now ((c.args.accounts.now ∷ c.args.counts.now ∷ [])))) (length_of (head_and_lines c.args.range_names.now
-    ((c.args.accounts.now ∷ c.args.firsts.now ∷ c.args.lasts.now ∷ c.args.firsts2.now ∷ c.args.lasts2.now ∷ [])))) (length c.args.text.now) = rw (c.measure-table.ensures, c.measure-ranges.ensures) at c.both_within.ensures in
-    let fit : TablesFit c.args.names.now ((c.args.accounts.now ∷ c.args.counts.now ∷ [])) c.args.range_names.now
-    ((c.args.accounts.now ∷ c.args.firsts.now ∷ c.args.lasts.now ∷ c.args.firsts2.now ∷ c.args.lasts2.now ∷ [])) c.args.text.now =
-    tables_fit c.args.names.now ((c.args.accounts.now ∷ c.args.counts.now ∷ [])) c.args.range_names.now ((c.args.accounts.now ∷ c.args.firsts.now ∷ c.args.lasts.now ∷ c.args.firsts2.now ∷ c.args.lasts2.now ∷ [])) c.args.text.now _ (sym (ap writing_of c.in-Written.is) ∙ within-is) in
-    let f = fit in
-    record { left_out_bound = omega arith; five_columns = measured_columns _ 0 c.args.accounts.now c.args.firsts.now c.args.lasts.now c.args.firsts2.now c.args.lasts2.now _ (none_unwritten _ _ _ _) f.second; fifth_in_bounds = omega (arith, f.fits, c.put_table-at.ensures.after, c.put_table-at.auto.text) }
+pub put-at-requires-clause-even : goal.put-at-requires-clause-even
+put-at-requires-clause-even c =
+    let first = c.args.first.now in
+    let second = c.args.second.now in
+    let fit = tables_fit first.names.now (columns_of first) second.names.now (columns_of second) c.args.text.now _ (rw (c.measure.ensures, c.measure-2.ensures) at c.in_ok-both_within.ensures) in
+    even_known _ _ _ fit.first
 
-pub returns-in-Refused : goal.returns-in-Refused
-returns-in-Refused c =
-    let within-is : writing_of c.both_within.result ≡ both_within (length_of (head_and_lines c.args.names.now ((c.args.accounts.now ∷ c.args.counts.now ∷ [])))) (length_of (head_and_lines c.args.range_names.now
-    ((c.args.accounts.now ∷ c.args.firsts.now ∷ c.args.lasts.now ∷ c.args.firsts2.now ∷ c.args.lasts2.now ∷ [])))) (length c.args.text.now) = rw (c.measure-table.ensures, c.measure-ranges.ensures) at c.both_within.ensures in
-    tables_refused c.args.names.now ((c.args.accounts.now ∷ c.args.counts.now ∷ [])) c.args.range_names.now ((c.args.accounts.now ∷ c.args.firsts.now ∷ c.args.lasts.now ∷ c.args.firsts2.now ∷ c.args.lasts2.now ∷ [])) c.args.text.now _ (sym (ap writing_of c.in-Refused.is) ∙ within-is)
+pub put-at-requires-clause-table_in_bounds : goal.put-at-requires-clause-table_in_bounds
+put-at-requires-clause-table_in_bounds c =
+    let first = c.args.first.now in
+    let second = c.args.second.now in
+    let fit = tables_fit first.names.now (columns_of first) second.names.now (columns_of second) c.args.text.now _ (rw (c.measure.ensures, c.measure-2.ensures) at c.in_ok-both_within.ensures) in
+    omega (arith, fit.fits)
 
-pub returns-in-Written : goal.returns-in-Written
-returns-in-Written c =
-    let within-is : writing_of c.both_within.result ≡ both_within (length_of (head_and_lines c.args.names.now ((c.args.accounts.now ∷ c.args.counts.now ∷ [])))) (length_of (head_and_lines c.args.range_names.now
-    ((c.args.accounts.now ∷ c.args.firsts.now ∷ c.args.lasts.now ∷ c.args.firsts2.now ∷ c.args.lasts2.now ∷ [])))) (length c.args.text.now) = rw (c.measure-table.ensures, c.measure-ranges.ensures) at c.both_within.ensures in
-    let fit : TablesFit c.args.names.now ((c.args.accounts.now ∷ c.args.counts.now ∷ [])) c.args.range_names.now
-    ((c.args.accounts.now ∷ c.args.firsts.now ∷ c.args.lasts.now ∷ c.args.firsts2.now ∷ c.args.lasts2.now ∷ [])) c.args.text.now =
-    tables_fit c.args.names.now ((c.args.accounts.now ∷ c.args.counts.now ∷ [])) c.args.range_names.now ((c.args.accounts.now ∷ c.args.firsts.now ∷ c.args.lasts.now ∷ c.args.firsts2.now ∷ c.args.lasts2.now ∷ [])) c.args.text.now _ (sym (ap writing_of c.in-Written.is) ∙ within-is) in
-    tables_put c.args.names.now ((c.args.accounts.now ∷ c.args.counts.now ∷ [])) c.args.range_names.now ((c.args.accounts.now ∷ c.args.firsts.now ∷ c.args.lasts.now ∷ c.args.firsts2.now ∷ c.args.lasts2.now ∷ [])) c.args.text.now _ _ _ _ (fit) c.put_table-at.ensures c.put_lines.ensures
+pub put-requires-clause-even : goal.put-requires-clause-even
+put-requires-clause-even c =
+    let first = c.args.first.now in
+    let second = c.args.second.now in
+    let fit = tables_fit first.names.now (columns_of first) second.names.now (columns_of second) c.args.text.now _ (rw (c.measure.ensures, c.measure-2.ensures) at c.in_ok-both_within.ensures) in
+    even_known _ _ _ fit.second
+
+pub put-requires-clause-table_in_bounds : goal.put-requires-clause-table_in_bounds
+put-requires-clause-table_in_bounds c =
+    let first = c.args.first.now in
+    let second = c.args.second.now in
+    let fit = tables_fit first.names.now (columns_of first) second.names.now (columns_of second) c.args.text.now _ (rw (c.measure.ensures, c.measure-2.ensures) at c.in_ok-both_within.ensures) in
+    omega (arith, fit.fits, c.put-at.ensures.after)
+
+pub returns : goal.returns
+returns c =
+    let first = c.args.first.now in
+    let second = c.args.second.now in
+    let fit = tables_fit first.names.now (columns_of first) second.names.now (columns_of second) c.args.text.now _ (rw (c.measure.ensures, c.measure-2.ensures) at c.in_ok-both_within.ensures) in
+    tables_put first.names.now (columns_of first) second.names.now (columns_of second) c.args.text.now _ _ _ _ fit c.put-at.ensures c.put.ensures

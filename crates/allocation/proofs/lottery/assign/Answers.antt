@@ -2,8 +2,8 @@
 use Rattle.allocation.proofs.RunLaws.{lottery-ready, lottery_done}
 use Rattle.allocation.proofs.lottery.assign.Goals as goal
 
-pub assign_run-requires : goal.assign_run-requires
-assign_run-requires c = let all = lottery-ready _ _ _ _ _ _ c.requires.judged_series c.seek-cursor.ensures c.clear.ensures in record { small = all.0; ahead = all.1 }
+pub assign-requires : goal.assign-requires
+assign-requires c = let all = lottery-ready c.args.list.now _ _ _ _ c.requires.room c.seek.ensures (c.fill.ensures.after (λ y e. e)) in record { small = all.0; ahead = all.1 }
 
 pub returns : goal.returns
-returns c = lottery_done _ _ _ _ _ _ c.requires.judged_series c.seek-cursor.ensures c.clear.ensures _ c.assign_run.ensures.assigned
+returns c = lottery_done c.args.list.now _ _ _ _ c.requires.room c.seek.ensures (c.fill.ensures.after (λ y e. e)) _ c.assign.ensures.assigned

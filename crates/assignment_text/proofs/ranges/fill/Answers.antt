@@ -1,17 +1,23 @@
 -- `ranges::fill` meets its contract: the first ranges, and the second ones from them.
-use mathlib.Core.Path.{ap, ◌∙◌}
 use native.Mathlib.Omega.{arith}
 use lib.ListN.{length}
-use Rattle.series.proofs.SumLaws.{length-listed}
-use Rattle.assignment_text.proofs.FillLaws.{first_of, last_of, firsts_raised, lasts_raised, firsts_near, lasts_near, columns_are}
+use lib.Seq.{length-take-le}
+use Rattle.assignment_text.proofs.FillLaws.{firsts_raised, lasts_raised, firsts_near, lasts_near, columns_are}
 use Rattle.assignment_text.proofs.ranges.fill.Goals as goal
 
 pub fill_second-requires : goal.fill_second-requires
-fill_second-requires c = (omega (arith, c.requires.first2_numbers, ap length c.fill_first-total.ensures.firsts_after, length-listed (first_of c.args.numbers.now) (length c.args.numbers.now)), omega (arith, c.fill_first-total.ensures.result_value, c.requires.small), firsts_near c.args.numbers.now _ _ c.fill_first-total.ensures.result_value c.fill_first-total.ensures.firsts_after)
+fill_second-requires c =
+    let first = c.fill_first-total.ensures in
+    (omega (arith, length-take-le (length c.args.shorts.now) c.fill_first-total.new.firsts (omega arith)), omega (arith, first.result_value, c.requires.1), firsts_near c.args.shorts.now first.result_value first.firsts_after)
 
 pub fill_second-requires-2 : goal.fill_second-requires-2
-fill_second-requires-2 c = (omega (arith, c.requires.last2_numbers, ap length c.fill_first-total.ensures.numbers_after, length-listed (last_of c.args.numbers.now) (length c.args.numbers.now)), omega (arith, c.fill_first-total.ensures.result_value, c.requires.small), lasts_near c.args.numbers.now _ _ c.fill_first-total.ensures.result_value c.fill_first-total.ensures.numbers_after)
+fill_second-requires-2 c =
+    let first = c.fill_first-total.ensures in
+    (omega (arith, length-take-le (length c.args.shorts.now) c.fill_first-total.new.lasts (omega arith)), omega (arith, first.result_value, c.requires.1), lasts_near c.args.shorts.now first.result_value first.lasts_after)
 
 pub returns : goal.returns
-returns c = λ accounts. columns_are c.args.numbers.now _ _ _ _ accounts c.fill_first-total.ensures.firsts_after c.fill_first-total.ensures.numbers_after (c.fill_second.ensures
-    ∙ firsts_raised c.args.numbers.now _ _ c.fill_first-total.ensures.result_value c.fill_first-total.ensures.firsts_after) (c.fill_second-2.ensures ∙ lasts_raised c.args.numbers.now _ _ c.fill_first-total.ensures.result_value c.fill_first-total.ensures.numbers_after)
+returns c =
+    let first = c.fill_first-total.ensures in
+    let firsts2 = firsts_raised c.args.shorts.now first.result_value c.fill_second.new.raised first.firsts_after c.fill_second.ensures in
+    let lasts2 = lasts_raised c.args.shorts.now first.result_value c.fill_second-2.new.raised first.lasts_after c.fill_second-2.ensures in
+    λ accounts. columns_are c.args.shorts.now _ _ _ _ accounts first.firsts_after first.lasts_after firsts2 lasts2

@@ -1,13 +1,8 @@
--- `at_least` meets its contract. The invariant: the positions passed are counted. The measure is what is left of the list.
-use Prim.Native.Nat.{◌-◌, ◌≤◌}
+-- `at_least` meets its contract. The invariant: the positions passed are counted.
 use mathlib.Core.Path.{◌≡◌}
-use lib.ListN.{length}
 use Rattle.series.specs.CutOff.{at_least}
 use Rattle.pro_rata.specs.Rounds.{at}
 use Rattle.pro_rata.proofs.rounds.at_least.Given as goal
 
-abbrev pub invariant-loop-i : goal.invariant-loop-i
-invariant-loop-i l = (l.i ≤ length l.parts) × (l.count ≡ at_least (at l.parts) l.x l.i)
-
-abbrev pub decreases-loop-i : goal.decreases-loop-i
-decreases-loop-i l = length l.parts - l.i
+abbrev pub invariant-loop-part : goal.invariant-loop-part
+invariant-loop-part l = l.count ≡ at_least (at l.parts) l.x l.part-index

@@ -6,10 +6,10 @@ use Rattle.pro_rata.proofs.JudgedLaws.{assigned_le, left_is, decimals-left, room
 use Rattle.pro_rata.proofs.rounds.both_rounds.Goals as goal
 
 pub overflow_sub-remainder : goal.overflow_sub-remainder
-overflow_sub-remainder c = omega (arith, c.round_one-assigned.ensures.assigned, assigned_le _ _ _ _ c.requires.0 _ (le_refl _))
+overflow_sub-remainder c = omega (arith, c.round_one-assigned.ensures.assigned, assigned_le c.args.list.now _ (le_refl _))
 
 pub round_two-requires : goal.round_two-requires
-round_two-requires c = (decimals-left _ _ _ _ c.requires.0 _ _ _ c.round_one-assigned.ensures, room_for_one _ _ _ _ c.requires.0 _ _ _ c.round_one-assigned.ensures)
+round_two-requires c = (decimals-left c.args.list.now _ _ _ c.round_one-assigned.ensures, room_for_one c.args.list.now _ _ _ c.round_one-assigned.ensures)
 
 pub returns : goal.returns
-returns c = record { handed = left_is _ _ _ _ c.requires.0 _ _ _ c.round_one-assigned.ensures; written = c.round_two.ensures ∙ rounds_are _ _ _ _ c.requires.0 _ _ _ c.round_one-assigned.ensures _ }
+returns c = record { handed = left_is c.args.list.now _ _ _ c.round_one-assigned.ensures; written = c.round_two.ensures ∙ rounds_are c.args.list.now _ _ _ c.round_one-assigned.ensures _ }

@@ -27,4 +27,4 @@ pub loop-width-preserved : goal.loop-width-preserved
 loop-width-preserved c = omega (arith, c.at_least-count.ensures)
 
 pub returns : goal.returns
-returns c = found _ _ c.requires c.loop-width.low (c.loop-width.low + c.loop-width.width) c.loop-width.enough c.loop-width.larger (omega arith) c.loop-width.invariant.4 c.loop-width.invariant.5 c.loop-width.invariant.2 c.loop-width.invariant.3
+returns c = found c.requires c.loop-width.low (c.loop-width.low + c.loop-width.width) c.loop-width.enough c.loop-width.larger (omega arith) c.loop-width.invariant.4 c.loop-width.invariant.5 c.loop-width.invariant.2 c.loop-width.invariant.3

@@ -1,8 +1,7 @@
--- `round_one` meets its contract. The invariant: the whole and decimal parts of the positions passed are written, and the whole parts summed. The measure is what is left of the list.
-use Prim.Native.Nat.{ℕ, ◌-◌, ◌≤◌}
+-- `round_one` meets its contract. The invariant: the whole and decimal parts of the positions passed are written, and the whole parts summed.
+use Prim.Native.Nat.{ℕ}
 use mathlib.Core.Path.{◌≡◌}
 use mathlib.Core.List.{List}
-use lib.ListN.{length}
 use Rattle.series.specs.Sums.{sum_below}
 use Rattle.series.specs.ProRata.{whole_part, decimal_part}
 use Rattle.pro_rata.specs.Rounds.{at, units}
@@ -17,7 +16,4 @@ abbrev pub decimals_of : Percentage → List ℕ → ℕ → ℕ
 decimals_of p shorts i = decimal_part (units p) (at shorts i)
 
 abbrev pub invariant-loop-i : goal.invariant-loop-i
-invariant-loop-i l = (l.i ≤ length l.shorts) × (l.amounts ≡ filled (wholes l.percentage l.shorts) l.i l.initial.amounts) × (l.parts ≡ filled (decimals_of l.percentage l.shorts) l.i l.initial.parts) × (l.sum ≡ sum_below (wholes l.percentage l.shorts) l.i)
-
-abbrev pub decreases-loop-i : goal.decreases-loop-i
-decreases-loop-i l = length l.shorts - l.i
+invariant-loop-i l = (l.amounts ≡ filled (wholes l.percentage l.list.shorts.now) l.i l.initial.amounts) × (l.parts ≡ filled (decimals_of l.percentage l.list.shorts.now) l.i l.initial.parts) × (l.sum ≡ sum_below (wholes l.percentage l.list.shorts.now) l.i)

@@ -7,5 +7,5 @@ pub returns-then-fields-eq0 : goal.returns-then-fields-eq0
 unfolding end_before
 returns-then-fields-eq0 c = rw c.if-fields-eq0.true
 
-pub returns : goal.returns
-returns c = end_other _ _ _ c.if-fields-eq0.false
+pub returns-else-fields-eq0 : goal.returns-else-fields-eq0
+returns-else-fields-eq0 c = end_other _ _ _ c.if-fields-eq0.false

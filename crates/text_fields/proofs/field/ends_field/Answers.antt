@@ -1,12 +1,14 @@
 -- `field::ends_field` meets its contract.
+use native.Mathlib.Omega.{arith}
+use Rattle.std.proofs.Common.{inl, inr}
+use Rattle.std.proofs.lemmas.Grind.{common_steps}
 use Rattle.text_rules.specs.Fields.{ends}
-use borrow.Author.Tests.{ne_eqb}
 use Rattle.text_fields.proofs.field.ends_field.Goals as goal
 
-pub returns-then-byte-eq44 : goal.returns-then-byte-eq44
+pub returns-in-44 : goal.returns-in-44
 unfolding ends
-returns-then-byte-eq44 c = rw c.if-byte-eq44.true
+returns-in-44 c = elim c.in-44.is [ inl e ↦ rw e | inr e ↦ rw e ]
 
-pub returns : goal.returns
+pub returns-in_default : goal.returns-in_default
 unfolding ends
-returns c = rw (ends, ne_eqb _ _ c.if-byte-eq44.false)
+returns-in_default c = grind (arith, common_steps)

@@ -1,52 +1,40 @@
 -- `number::read_number` meets its contract. The loop's invariant: the bytes passed are digits of the field, at most ten, and `n` is their number.
-use mathlib.Core.Path.{sym, ◌∙◌}
+use Prim.Native.Nat.{◌+◌}
+use mathlib.Core.Path.{◌≡◌, sym, ◌∙◌}
 use native.Mathlib.Omega.{arith}
-use borrow.Author.Tests.{not-true, not-false}
-use lib.ListN.{get_or}
-use Rattle.text_rules.proofs.FieldLaws.{digit_bounds}
-use Rattle.text_fields.proofs.FieldLaws.{number_start, number_small, number_more, number-long, number_other, number_none, number-end, number_empty, number_large}
-use mathlib.Core.Path.{ap}
-use mathlib.Core.Bool.{not}
+use Rattle.std.proofs.Common.{inl, inr}
+use Rattle.std.proofs.lemmas.Grind.{common_steps}
+use Rattle.text_rules.specs.Numbers.{digit}
+use Rattle.text_fields.proofs.FieldLaws.{rest_from, number_start, number_more, number-long, number_other, number_none, number-end, number_empty, number_large}
 use Rattle.text_fields.proofs.number.read_number.Goals as goal
 
 pub loop-i-init : goal.loop-i-init
-loop-i-init c = number_start c.args.end c.args.text.now c.args.at
-
-pub is_digit-requires : goal.is_digit-requires
-is_digit-requires c = tt
+loop-i-init c = number_start c.args.end c.args.text.now
 
 pub returns-then-byte-end : goal.returns-then-byte-end
-returns-then-byte-end c = number_other c.args.end c.args.text.now c.args.at c.loop-i.i c.loop-i.n c.loop-i.invariant (omega arith) (sym c.is_digit.ensures ∙ not-true _ (ap not c.if-not-is_digit.true)) c.if-byte-end.true
+unfolding digit
+returns-then-byte-end c =
+    elim c.then-byte-end.either [
+      | inl other ↦ number_other c.args.end c.args.text.now c.loop-i.i c.loop-i.n c.loop-i.invariant c.loop-i-test.true (sym c.is_ascii_digit.ensures.value ∙ c.if-not-is_ascii_digit.true) other
+      | inr empty ↦ number_empty c.args.end c.args.text.now c.loop-i.i c.loop-i.n c.loop-i.invariant c.loop-i-test.true empty.0 c.requires empty.1
+    ]
 
-pub returns-then-i-at : goal.returns-then-i-at
-returns-then-i-at c = number_empty c.args.end c.args.text.now c.args.at c.loop-i.i c.loop-i.n c.loop-i.invariant (omega arith) c.if-byte-end.false c.requires c.if-i-at.true
+pub returns-in_err-found : goal.returns-in_err-found
+returns-in_err-found c =
+    rw c.from_residual.ensures (number_large c.args.end c.args.text.now c.loop-i.i c.loop-i.n c.loop-i.invariant c.loop-i-test.true c.if-byte-end.false c.requires (grind (arith, common_steps)))
 
-pub returns-then-n-gt4294967295 : goal.returns-then-n-gt4294967295
-returns-then-n-gt4294967295 c = number_large c.args.end c.args.text.now c.args.at c.loop-i.i c.loop-i.n c.loop-i.invariant (omega arith) c.if-byte-end.false c.requires c.if-n-gt4294967295.true
+pub returns-then-not-is_ascii_digit : goal.returns-then-not-is_ascii_digit
+returns-then-not-is_ascii_digit c =
+    let is : c.in_ok-found.found ≡ c.loop-i.n = grind (arith, common_steps) in
+    rw (is, rest_from (c.loop-i.i + 1) c.args.text.now) (number-end c.args.end c.args.text.now c.loop-i.i c.loop-i.n c.loop-i.invariant c.loop-i-test.true c.if-byte-end.false c.requires c.if-i-eq0.false (grind (arith, common_steps)))
 
-pub returns-then-not-is_digit : goal.returns-then-not-is_digit
-returns-then-not-is_digit c = number-end c.args.end c.args.text.now c.args.at c.loop-i.i c.loop-i.n c.loop-i.invariant (omega arith) c.if-byte-end.false c.requires c.if-i-at.false c.if-n-gt4294967295.false
-
-pub overflow_sub-i : goal.overflow_sub-i
-overflow_sub-i c = omega (arith, c.loop-i.invariant.within)
-
-pub returns-then-i-at-ge10 : goal.returns-then-i-at-ge10
-returns-then-i-at-ge10 c = number-long c.args.end c.args.text.now c.args.at c.loop-i.i c.loop-i.n c.loop-i.invariant (omega arith) (sym c.is_digit.ensures ∙ not-false _ (ap not c.if-not-is_digit.false)) c.if-i-at-ge10.true
-
-pub overflow_mul-n : goal.overflow_mul-n
-overflow_mul-n c = omega (arith, number_small c.args.end c.args.text.now c.args.at c.loop-i.i c.loop-i.n c.loop-i.invariant)
-
-pub overflow_sub-n : goal.overflow_sub-n
-overflow_sub-n c = (digit_bounds _ (sym c.is_digit.ensures ∙ not-false _ (ap not c.if-not-is_digit.false))).0
-
-pub overflow_cast-n : goal.overflow_cast-n
-overflow_cast-n c = omega (arith, (digit_bounds (get_or c.args.text.now c.loop-i.i 0) (sym c.is_digit.ensures ∙ not-false _ (ap not c.if-not-is_digit.false))).1)
-
-pub overflow_add-n : goal.overflow_add-n
-overflow_add-n c = omega (arith, number_small c.args.end c.args.text.now c.args.at c.loop-i.i c.loop-i.n c.loop-i.invariant, (digit_bounds (get_or c.args.text.now c.loop-i.i 0) (sym c.is_digit.ensures ∙ not-false _ (ap not c.if-not-is_digit.false))).1)
+pub returns-then-i-ge10 : goal.returns-then-i-ge10
+unfolding digit
+returns-then-i-ge10 c = number-long c.args.end c.args.text.now c.loop-i.i c.loop-i.n c.loop-i.invariant c.loop-i-test.true (sym c.is_ascii_digit.ensures.value ∙ c.if-not-is_ascii_digit.false) c.if-i-ge10.true
 
 pub loop-i-preserved : goal.loop-i-preserved
-loop-i-preserved c = number_more c.args.end c.args.text.now c.args.at c.loop-i.i c.loop-i.n c.loop-i.invariant (omega arith) (sym c.is_digit.ensures ∙ not-false _ (ap not c.if-not-is_digit.false)) c.if-i-at-ge10.false
+unfolding digit
+loop-i-preserved c = rw c.from.ensures (number_more c.args.end c.args.text.now c.loop-i.i c.loop-i.n c.loop-i.invariant c.loop-i-test.true (sym c.is_ascii_digit.ensures.value ∙ c.if-not-is_ascii_digit.false) c.if-i-ge10.false)
 
 pub returns : goal.returns
-returns c = number_none c.args.end c.args.text.now c.args.at c.loop-i.i c.loop-i.n c.loop-i.invariant (omega arith)
+returns c = number_none c.args.end c.args.text.now c.loop-i.i c.loop-i.n c.loop-i.invariant c.loop-i-test.false

@@ -8,6 +8,6 @@ pub returns-then-terms-eq-DEFAULT_INCREMENT : goal.returns-then-terms-eq-DEFAULT
 unfolding terms_columns
 returns-then-terms-eq-DEFAULT_INCREMENT c = rw (eq-eqb _ DEFAULT_INCREMENT c.if-terms-eq-DEFAULT_INCREMENT.true)
 
-pub returns : goal.returns
+pub returns-else-terms-eq-DEFAULT_INCREMENT : goal.returns-else-terms-eq-DEFAULT_INCREMENT
 unfolding terms_columns
-returns c = rw (ne_eqb _ DEFAULT_INCREMENT c.if-terms-eq-DEFAULT_INCREMENT.false)
+returns-else-terms-eq-DEFAULT_INCREMENT c = rw (ne_eqb _ DEFAULT_INCREMENT c.if-terms-eq-DEFAULT_INCREMENT.false)

@@ -1,24 +1,25 @@
--- `method_by` meets its contract.
-use borrow.Author.Tests.{ne_eqb}
+-- `letters::method_by` meets its contract.
+use native.Mathlib.Omega.{arith}
+use Rattle.std.proofs.lemmas.Grind.{common_steps}
 use Rattle.text_rules.specs.Letters.{letter, method_among, method_by}
 use Rattle.text_words.proofs.letters.method_by.Goals as goal
 
-pub returns-then-letter-eq87 : goal.returns-then-letter-eq87
+pub returns-in-87 : goal.returns-in-87
 unfolding method_by method_among letter
-returns-then-letter-eq87 c = rw c.if-letter-eq87.true
+returns-in-87 c = rw c.in-87.is
 
-pub returns-then-letter-eq80 : goal.returns-then-letter-eq80
+pub returns-in-80 : goal.returns-in-80
 unfolding method_by method_among letter
-returns-then-letter-eq80 c = rw c.if-letter-eq80.true
+returns-in-80 c = rw c.in-80.is
 
-pub returns-then-letter-eq76 : goal.returns-then-letter-eq76
+pub returns-in-76 : goal.returns-in-76
 unfolding method_by method_among letter
-returns-then-letter-eq76 c = rw c.if-letter-eq76.true
+returns-in-76 c = rw c.in-76.is
 
-pub returns-then-letter-eq82 : goal.returns-then-letter-eq82
+pub returns-in-82 : goal.returns-in-82
 unfolding method_by method_among letter
-returns-then-letter-eq82 c = rw c.if-letter-eq82.true
+returns-in-82 c = rw c.in-82.is
 
-pub returns : goal.returns
+pub returns-in_default : goal.returns-in_default
 unfolding method_by method_among letter
-returns c = rw (ne_eqb _ _ c.if-letter-eq87.false, ne_eqb _ _ c.if-letter-eq80.false, ne_eqb _ _ c.if-letter-eq76.false, ne_eqb _ _ c.if-letter-eq82.false)
+returns-in_default c = grind (arith, common_steps)

@@ -4,4 +4,4 @@ use Rattle.text_writing.proofs.PutLaws.{put_part}
 use Rattle.text_writing.proofs.put.put_line.Goals as goal
 
 pub returns : goal.returns
-returns c = put_part c.args.line.now c.args.text.now c.copy_from_slice.new.self c.args.at _ (omega arith) c.copy_from_slice.ensures.after
+returns c = put_part c.args.line.now c.args.text.now c.copy.new.target c.args.at _ (omega arith) c.copy.ensures.after

@@ -1,15 +1,11 @@
 -- `put::put_number` meets its contract. The loop's invariant: the digits from index `i` on are put, and those before it are the digits of `rest`.
 use Prim.Native.Nat.{◌+◌, ◌-◌, ◌<◌}
-use mathlib.Core.Path.{◌∙◌}
 use native.Mathlib.Omega.{arith}
-use lib.ListN.{length, length-set}
+use lib.ListN.{length}
 use Rattle.text_rules.specs.Numbers.{decimal}
 use Rattle.text_rules.proofs.LengthLaws.{length-number}
 use Rattle.text_writing.proofs.PutLaws.{digits_start, digits_more, digits-end}
 use Rattle.text_writing.proofs.put.put_number.Goals as goal
-
-pub digits_of-digits-requires : goal.digits_of-digits-requires
-digits_of-digits-requires c = tt
 
 pub loop-i-init : goal.loop-i-init
 loop-i-init c = digits_start c.args.n c.args.text.now c.args.at c.digits_of-digits.result c.digits_of-digits.ensures
@@ -48,9 +44,6 @@ pub overflow_add-result-2 : goal.overflow_add-result-2
 overflow_add-result-2 c =
     let room : c.args.at + length (decimal c.args.n) < length c.args.text.now = omega (arith, length-number c.args.n c.args.end) in
     omega (arith, room, c.digits_of-digits.ensures)
-
-pub shape_of-text : goal.shape_of-text
-shape_of-text c = length-set c.loop-i.text (c.args.at + c.digits_of-digits.result) c.args.end ∙ c.loop-i.invariant.long
 
 pub returns : goal.returns
 returns c =

@@ -4,6 +4,3 @@ use Rattle.text_writing.proofs.put.put_number.Given as goal
 
 abbrev pub invariant-loop-i : goal.invariant-loop-i
 invariant-loop-i l = DigitsPut l.n l.initial.text l.at l.text l.i l.rest
-
-abbrev pub decreases-loop-i : goal.decreases-loop-i
-decreases-loop-i l = l.i

@@ -1,2 +1,0 @@
--- Laws of the numbers of C.
-mod FormLaws

@@ -1,9 +1,0 @@
--- `answer_written` meets its contract.
-use mathlib.Core.Path.{refl}
-use Rattle.responses.proofs.answer_written.Goals as goal
-
-pub returns-in-Written : goal.returns-in-Written
-returns-in-Written c = rw c.in-Written.is refl
-
-pub returns-in-Refused : goal.returns-in-Refused
-returns-in-Refused c = rw c.in-Refused.is refl
