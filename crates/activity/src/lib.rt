@@ -6,14 +6,17 @@ ghost use Rattle.activity_rules.specs.Activity.{ordinary_day, final_day, after_d
 ghost use Rattle.activity_rules.specs.Parts.{Counted};
 ghost use Rattle.activity.specs.Answers.{investor_answer, market_maker_answer};
 
+mod counted_investor;
+
 pub use activity_rules::{AfterDay, Day, Investor, MarketMaker, Transactions};
-use series::{Contracts, Refusal};
+use counted_investor::CountedInvestor;
+use series::{Contracts, MOST_CONTRACTS, Refusal};
 
 // Whether any of the counts is above 10,000,000.
 fn any_above(counts: &[u32]) -> bool
     ensures { result ≡ any_above counts.now }
 {
-    counts.iter().any(|&count| 10_000_000 < count)
+    counts.iter().any(|&count| MOST_CONTRACTS < count)
 }
 
 // What a exceeds b by, or zero.
@@ -23,13 +26,11 @@ fn excess(a: Contracts, b: Contracts) -> Contracts
     Contracts(a.0.saturating_sub(b.0))
 }
 
-// What is asked of the counts (`Counted`) is one word over them as they are given, and no type of its own: a second type beside Investor would be no plainer.
-
 // An ordinary day: opening purchases, opening sales and closing purchases come first, then exercises, then closing sales.
-fn ordinary_day(investor: Investor) -> AfterDay
-    requires { Counted (investor_counts investor) }
-    ensures { result ≡ ordinary_day investor }
+fn ordinary_day(counted: CountedInvestor) -> AfterDay
+    ensures { result ≡ ordinary_day counted.investor }
 {
+    let investor = counted.investor;
     let long_side = investor.long.0 + investor.purchases.opening.0;
     let short_side = investor.short.0 + investor.sales.opening.0;
     let limit = Contracts(long_side);
@@ -46,10 +47,10 @@ fn ordinary_day(investor: Investor) -> AfterDay
 }
 
 // The final trading day: all trades come first, then exercises.
-fn final_day(investor: Investor) -> AfterDay
-    requires { Counted (investor_counts investor) }
-    ensures { result ≡ final_day investor }
+fn final_day(counted: CountedInvestor) -> AfterDay
+    ensures { result ≡ final_day counted.investor }
 {
+    let investor = counted.investor;
     let long_side = investor.long.0 + investor.purchases.opening.0 + investor.purchases.closing.0;
     let short_side = investor.short.0 + investor.sales.opening.0 + investor.sales.closing.0;
     let limit = excess(Contracts(long_side), Contracts(short_side));
@@ -61,13 +62,12 @@ fn final_day(investor: Investor) -> AfterDay
 }
 
 // What an investor gets where he meets no refusal.
-fn after_day(day: Day, investor: Investor) -> AfterDay
-    requires { Counted (investor_counts investor) }
-    ensures { result ≡ after_day day investor }
+fn after_day(day: Day, counted: CountedInvestor) -> AfterDay
+    ensures { result ≡ after_day day counted.investor }
 {
     match day {
-        Day::Ordinary => ordinary_day(investor),
-        Day::Final => final_day(investor),
+        Day::Ordinary => ordinary_day(counted),
+        Day::Final => final_day(counted),
     }
 }
 
@@ -88,10 +88,10 @@ fn investor_above(investor: Investor) -> bool
 }
 
 // Whether closing purchases are above opening short plus opening sales as given.
-fn closes_above_short(investor: Investor) -> bool
-    requires { Counted (investor_counts investor) }
-    ensures { result ≡ closes_above_short investor }
+fn closes_above_short(counted: CountedInvestor) -> bool
+    ensures { result ≡ closes_above_short counted.investor }
 {
+    let investor = counted.investor;
     investor.short.0 + investor.sales.opening.0 < investor.purchases.closing.0
 }
 
@@ -102,17 +102,18 @@ pub fn process_investor(day: Day, investor: Investor) -> Result<AfterDay, Refusa
     if investor_above(investor) {
         return Err(Refusal::CountTooLarge);
     }
-    if closes_above_short(investor) {
+    let counted = CountedInvestor { investor };
+    if closes_above_short(counted) {
         return Err(Refusal::ClosingPurchasesAboveShort);
     }
-    let after = after_day(day, investor);
+    let after = after_day(day, counted);
     if after.limit.0 < investor.exercised.0 {
         return Err(Refusal::ExercisedAboveLimit);
     }
     Ok(after)
 }
 
-// What a market-maker gets where he meets no refusal.
+// What a market-maker gets where he meets no refusal. No other function asks for his counts judged, so no type says it.
 fn market_maker_limit(day: Day, maker: MarketMaker) -> Contracts
     requires { Counted (market_maker_counts maker) }
     ensures { result.0 ≡ market_maker_limit day maker }

@@ -1,12 +1,12 @@
 -- What the wheel, the starting number and the remainder draw ask of a judged list, and what their answers come to.
-use Prim.Native.Nat.{ℕ, ◌≤◌}
+use Prim.Native.Nat.{ℕ}
 use mathlib.Core.Path.{◌≡◌, refl, sym, ap, ap₂, ◌∙◌}
 use mathlib.Core.Bool.{true, false}
 use mathlib.Core.Option.{Option, none, some}
 use mathlib.Core.List.{List, [], ◌∷◌, ◌++◌}
 use native.Mathlib.Omega.{arith}
 use lib.Dec.{eqb}
-use lib.ListN.{length, take, drop, set}
+use lib.ListN.{length, drop, set}
 use borrow.Author.Tests.{eq-eqb, ne_eqb}
 use Rattle.series.specs.Results.{Result, refused, value}
 use Rattle.series.specs.Places.{total, OnWheel}
@@ -19,14 +19,15 @@ use Rattle.series.specs.Call.{assigned, further}
 use Rattle.series.specs.Fair.{AllocatingCall}
 use Rattle.series.specs.declared.Method.{Method}
 use Rattle.series.specs.declared.Terms.{Terms}
-use Rattle.series.proofs.AcceptedLaws.{Facts}
 use Rattle.series.proofs.CallLaws.{wheel_judged, wheel-draw, lottery_judged, lottery-draw, codes_unseen}
 use Rattle.series.proofs.IncrementLaws.{call_by_terms}
 use Rattle.starts.proofs.StartLaws.{started_not_wheel}
 use Rattle.starts.specs.Starts.{method_for, place_by, Leads}
 use Rattle.starts.specs.declared.StartBy.{StartBy}
 use Rattle.judging.specs.Assigning.{Assigns}
-use Rattle.judging.proofs.CallLaws.{fits, room, call_refused, call_list, call_draw, call_increment, call_allocated}
+use Rattle.judging.specs.Judged.{ListOf}
+use Rattle.judging.specs.declared.judged_list.JudgedList.{JudgedList}
+use Rattle.judging.proofs.CallLaws.{call_refused, call_draw, call_increment, call_allocated}
 use Rattle.allocation.specs.Blocks.{Increment}
 
 -- an allocation by a method, with T and the further number
@@ -50,36 +51,42 @@ judged_leads StartBy.TenThousandths t T n e needed draw = lottery-draw t T e (lo
 judged_leads StartBy.Remainder t T n e needed draw = tt
 
 -- what the wheel, and assigning by a draw, make of a judged list
-module _ (t : Terms) (hs : List ℕ) (T : ℕ) (sum : T ≡ total hs) where
+module _ (t : Terms) (l : JudgedList) (same : l.exercised.0 ≡ t.exercised.0) where
+  abbrev hs : List ℕ
+  hs = l.shorts.now
+
+  abbrev T : ℕ
+  T = l.total.0
+
   abbrev S : ℕ
-  S = t.exercised.0
+  S = l.exercised.0
 
   wheel_gives : t.method ≡ Method.Wheel → (b : ℕ) (vs : List ℕ) → b ≡ blocks_used t.increment.0 T S → vs ≡ wheel t.increment.0 hs S t.draw → Assigns t hs (answered_by Method.Wheel T (some b)) vs
   unfolding further assigned
   wheel_gives e b vs eb ev =
       record {
-        answered = rw e (ap₂ (λ x f. answered_by Method.Wheel x (some f)) sum (eb ∙ ap (λ x. blocks_used t.increment.0 x S) sum));
-        written = rw e ev;
+        answered = rw (e, ← same) (ap₂ (λ x f. answered_by Method.Wheel x (some f)) l.sum (eb ∙ ap (λ x. blocks_used t.increment.0 x S) l.sum));
+        written = rw (e, ← same) ev;
       }
 
   started_gives : (by : StartBy) → t.method ≡ method_for by → (f : Option ℕ) (vs : List ℕ) → f ≡ start_used hs S (place_by by T t.draw) → vs ≡ lottery_amounts hs S (place_by by T t.draw) → Assigns t hs (answered_by (method_for by) T f) vs
   started_gives by e f vs ef ev =
-      let place : place_by by T t.draw ≡ place_by by (total hs) t.draw = ap (λ x. place_by by x t.draw) sum in
+      let place : place_by by T t.draw ≡ place_by by (total hs) t.draw = ap (λ x. place_by by x t.draw) l.sum in
       record {
-        answered = rw (started_further by t hs e, e) (ap₂ (answered_by (method_for by)) sum (ef ∙ ap (start_used hs S) place));
-        written = ev ∙ ap (lottery_amounts hs S) place ∙ sym (started_assigned by t hs e);
+        answered = rw (started_further by t hs e, e, ← same) (ap₂ (answered_by (method_for by)) l.sum (ef ∙ ap (start_used hs S) place));
+        written = rw (started_assigned by t hs e, ← same) (ev ∙ ap (lottery_amounts hs S) place);
       }
 
 -- the call by the wheel, where it is not turned away
-module _ (s : Series) (old : List ℕ) (T : ℕ) (v : value T ≡ verdict s (length old)) (e : method s ≡ Method.Wheel) where
-  pub wheel_asked : Increment (increment s) × ((exercised s ≡ T → ⊥) → OnWheel T (draw s))
+module _ (s : Series) (old : List ℕ) (l : JudgedList) (v : value l.total.0 ≡ verdict s (length old)) (of : ListOf s.shorts (exercised s) (length old) l) (e : method s ≡ Method.Wheel) where
+  pub wheel_asked : Increment (increment s) × ((l.exercised.0 ≡ l.total.0 → ⊥) → OnWheel l.total.0 (draw s))
   wheel_asked =
-      let by = call_increment s old T v e in
-      (record { some = by.some; most = by.most }, λ part. wheel-draw s.terms T e (wheel_judged s.terms T (length s.shorts) e part (call_draw s old T v)))
+      let by = call_increment s old l v of e in
+      (record { some = by.some; most = by.most }, λ part. wheel-draw s.terms l.total.0 e (wheel_judged s.terms l.total.0 (length l.shorts.now) e (rw of.exercised_is at part) (call_draw s old l v of)))
 
-  pub wheel_called : (b : ℕ) (vs : List ℕ) → b ≡ blocks_used (increment s) T (exercised s) → vs ≡ wheel (increment s) s.shorts (exercised s) (draw s)
-      → AllocatingCall s (answered_by Method.Wheel T (some b)) old (vs ++ drop (length s.shorts) old)
-  wheel_called b vs eb ev = call_allocated s old T v _ vs (wheel_gives s.terms s.shorts T (call_list s old T v).1 e b vs eb ev)
+  pub wheel_called : (b : ℕ) (vs : List ℕ) → b ≡ blocks_used (increment s) l.total.0 l.exercised.0 → vs ≡ wheel (increment s) l.shorts.now l.exercised.0 (draw s)
+      → AllocatingCall s (answered_by Method.Wheel l.total.0 (some b)) old (vs ++ drop (length l.shorts.now) old)
+  wheel_called b vs eb ev = call_allocated s old l v of _ vs (wheel_gives s.terms l of.exercised_is e b vs eb ev)
 
 -- a call by L or R, with these codes and the default increment, of which an allocation is told neither
 module _ (by : StartBy) (S draw : ℕ) (accounts shorts old : List ℕ) where
@@ -100,24 +107,15 @@ module _ (by : StartBy) (S draw : ℕ) (accounts shorts old : List ℕ) where
   pub started_refused : (n : ℕ) → Judged (refused n) → Allocates (refused n) old
   started_refused n v t codes given = call_by_terms t _ _ _ _ codes accounts shorts (started_not_wheel by) given (call_refused (called codes) old n (by_codes (refused n) v codes))
 
-  module _ (T : ℕ) (v : Judged (value T)) where
-    pub fitting : length shorts ≤ length old
-    fitting = fits (called accounts) old T v
+  module _ (l : JudgedList) (v : Judged (value l.total.0)) (of : ListOf shorts S (length old) l) where
+    pub started_leads : unstarted l.total.0 (length l.shorts.now) l.exercised.0 ≡ false → Leads by draw
+    started_leads needed = judged_leads by (called accounts).terms l.total.0 (length l.shorts.now) refl (rw of.exercised_is at needed) (call_draw (called accounts) old l v of)
 
-    pub room_for : length (take (length shorts) old) ≡ length shorts
-    room_for = room (called accounts) old T v
-
-    pub started_list : Facts (called accounts) × (T ≡ total shorts)
-    started_list = call_list (called accounts) old T v
-
-    pub started_leads : unstarted T (length shorts) S ≡ false → Leads by draw
-    started_leads needed = judged_leads by (called accounts).terms T (length shorts) refl needed (call_draw (called accounts) old T v)
-
-    pub started_called : (f : Option ℕ) (vs : List ℕ) → f ≡ start_used shorts S (place_by by T draw) → vs ≡ lottery_amounts shorts S (place_by by T draw)
-        → Allocates (answered_by (method_for by) T f) (vs ++ drop (length shorts) old)
+    pub started_called : (f : Option ℕ) (vs : List ℕ) → f ≡ start_used l.shorts.now l.exercised.0 (place_by by l.total.0 draw) → vs ≡ lottery_amounts l.shorts.now l.exercised.0 (place_by by l.total.0 draw)
+        → Allocates (answered_by (method_for by) l.total.0 f) (vs ++ drop (length l.shorts.now) old)
     started_called f vs ef ev t codes given =
         call_by_terms t _ _ _ _ codes accounts shorts (started_not_wheel by) given
-        (call_allocated (called codes) old T (by_codes (value T) v codes) _ vs (started_gives (called codes).terms shorts T started_list.1 by refl f vs ef ev))
+        (call_allocated (called codes) old l (by_codes (value l.total.0) v codes) of _ vs (started_gives (called codes).terms l of.exercised_is by refl f vs ef ev))
 
 -- ---- assigning by a draw
 

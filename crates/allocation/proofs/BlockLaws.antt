@@ -17,7 +17,7 @@ use Rattle.judging.specs.declared.judged_list.JudgedList.{JudgedList}
 use Rattle.allocation.specs.declared.places.Cursor.{Cursor}
 use Rattle.allocation.specs.declared.wheel.Wheel.{Wheel}
 use Rattle.allocation.specs.Stretch.{Stands, Assigned, Small, place_of}
-use Rattle.allocation.specs.Millionths.{millionths, Carried}
+use Rattle.allocation.specs.Millionths.{millionths}
 use Rattle.allocation.specs.Blocks.{Increment, Ready, Skipped, BlocksFit, marks_from, due}
 use Rattle.allocation.proofs.RunLaws.{assigned-amounts}
 
@@ -79,7 +79,6 @@ block_next hs out₀ out new all w r c block blocks I l t less s a sk =
     record {
       ready = record {
         on = sk.stands.on;
-        carried = rw sk.interval t.ready.carried;
         short = rw sk.interval t.ready.short;
         reserve = rw sk.rest (mod-lt (due w) (omega arith));
         list = t.ready.list;
@@ -130,7 +129,7 @@ module _ (list : JudgedList) where
   abbrev S : ℕ
   S = list.exercised.0
 
-  module _ (out cleared : List ℕ) (w : Wheel) (p I b l : ℕ) (room : length out ≡ length hs) (inc : Increment I) (part : S < total hs) (stands : Stands hs 0 p w.cursor) (ec : cleared ≡ replicate (length out) 0) (eb : b ≡ blocks I S) (el : l ≡ S - I * (b - 1)) (ek : millionths w.interval ≡ interval I list.total.0 b) (carried : Carried w.interval) (er : millionths w.reserve ≡ 0) where
+  module _ (out cleared : List ℕ) (w : Wheel) (p I b l : ℕ) (room : length out ≡ length hs) (inc : Increment I) (part : S < total hs) (stands : Stands hs 0 p w.cursor) (ec : cleared ≡ replicate (length out) 0) (eb : b ≡ blocks I S) (el : l ≡ S - I * (b - 1)) (ek : millionths w.interval ≡ interval I list.total.0 b) (er : millionths w.reserve ≡ 0) where
     interval_is : millionths w.interval ≡ interval I (total hs) b
     interval_is = ek ∙ ap (λ t. interval I t b) list.sum
 
@@ -146,7 +145,6 @@ module _ (list : JudgedList) where
         record {
           ready = record {
             on = stands.on;
-            carried = carried;
             short = omega (arith, interval_is, interval-short I (total hs) b inc.some (omega (arith, part)) (omega (arith, eb, count.is)));
             reserve = omega (arith, er);
             list = omega (arith, list.sum, list.small);

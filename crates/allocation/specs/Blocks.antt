@@ -3,7 +3,7 @@ use Rattle.std.specs.Prelude.{ℕ, ◌+◌, ◌-◌, ◌*◌, ◌/◌, ◌%◌, 
 use Rattle.series.specs.Series.{MOST_CONTRACTS}
 use Rattle.series.specs.Places.{total, before, last, marked}
 use Rattle.series.specs.Wheel.{ONE, MOST_INCREMENT, marks}
-use Rattle.allocation.specs.Millionths.{millionths, Carried}
+use Rattle.allocation.specs.Millionths.{millionths}
 use Rattle.allocation.specs.Stretch.{OnList, Stands, place_of}
 use Rattle.allocation.specs.declared.wheel.Wheel.{Wheel}
 
@@ -14,7 +14,6 @@ due w = millionths w.interval + millionths w.reserve
 -- the wheel stands on the list, and one skip passes no more than the list
 pub record Ready (hs : List ℕ) (w : Wheel) : Type 0 where
   pub on : OnList hs w.cursor
-  pub carried : Carried w.interval
   pub short : millionths w.interval + ONE ≤ total hs * ONE
   pub reserve : millionths w.reserve < ONE
   pub list : total hs ≤ MOST_CONTRACTS

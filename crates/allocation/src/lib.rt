@@ -14,56 +14,48 @@ ghost use Rattle.series.specs.declared.Method.{Method as Method·};
 ghost use Rattle.series.specs.declared.Terms.{Terms as Terms·};
 ghost use Rattle.starts.specs.Starts.{method_for};
 
-use judging::JudgedList;
-use series::{Allocated, Contracts, DEFAULT_INCREMENT, Method, Refusal, Series, Terms, terms_of};
-use starts::{StartBy, answer_for, method_for, start_by};
+use series::{
+    AccountList, Allocated, Contracts, DEFAULT_INCREMENT, Method, Refusal, Series, Terms, terms_of,
+};
+use starts::{StartBy, answer_for, start_by};
 
 // The call by the wheel.
 fn allocate_wheel(series: &Series, amounts: &mut [u32]) -> Result<Allocated, Refusal>
     requires { series.now.terms.method ≡ Method·.Wheel }
     ensures { AllocatingCall (series_of series.now) (answer_of result) amounts.old amounts.new }
 {
-    let total = judging::judge(series, amounts.len())?;
-    let shorts = series.positions.shorts;
-    let list = JudgedList {
-        shorts,
-        total,
-        exercised: series.terms.exercised,
-    };
+    let list = judging::judge(series, amounts.len())?;
     let Terms {
         increment,
         draw,
         ..
     } = series.terms;
-    let blocks = wheel::assign(&list, increment, draw, &mut amounts[..shorts.len()]);
-    Ok(Allocated::Wheel { total, blocks })
+    let blocks = wheel::assign(&list, increment, draw, &mut amounts[..list.shorts.len()]);
+    Ok(Allocated::Wheel {
+        total: list.total,
+        blocks,
+    })
 }
 
-// The call by L or R, by terms that have this S and draw. No code is looked at, nor an increment: the promise holds whatever these are. Handed the series, a call on ten positions takes 1.2 times as long.
+// The call by L or R, by terms that have this S and draw. No code is looked at, nor an increment: the promise holds whatever these are, so that nothing is asked of a series or its method. Handed the series, a call on ten positions takes 1.2 times as long.
 fn allocate_started(
     by: StartBy,
     exercised: Contracts,
     draw: u32,
-    accounts: &[u32],
-    shorts: &[u32],
+    list: &AccountList,
     amounts: &mut [u32],
 ) -> Result<Allocated, Refusal>
-    ensures { (t : Terms·) (codes : List ℕ) → Given t (method_for by) exercised.0 draw → AllocatingCall (record { terms = t; codes = codes; accounts = accounts.now; shorts = shorts.now }) (answer_of result) amounts.old amounts.new }
+    ensures { (t : Terms·) (codes : List ℕ) → Given t (method_for by) exercised.0 draw → AllocatingCall (record { terms = t; codes = codes; accounts = list.now.accounts.now; shorts = list.now.shorts.now }) (answer_of result) amounts.old amounts.new }
 {
     let terms = terms_of(
-        method_for(by),
+        Method::from(by),
         exercised,
         draw,
         Contracts(DEFAULT_INCREMENT),
     );
-    let total = judging::judge_uncoded(terms, accounts, shorts, amounts.len())?;
-    let list = JudgedList {
-        shorts,
-        total,
-        exercised,
-    };
-    let start = lottery::assign_by_draw(by, &list, draw, &mut amounts[..shorts.len()]);
-    Ok(answer_for(by, total, start))
+    let judged = judging::judge_uncoded(terms, list, amounts.len())?;
+    let start = lottery::assign_by_draw(by, &judged, draw, &mut amounts[..judged.shorts.len()]);
+    Ok(answer_for(by, judged.total, start))
 }
 
 // Assigns the exercised contracts to the positions, amounts in list order; or the first refusal that applies, and then amounts keeps its elements.
@@ -77,16 +69,14 @@ pub fn allocate(series: &Series, amounts: &mut [u32]) -> Result<Allocated, Refus
         Method::ProRata => pro_rata::allocate(
             terms.exercised,
             terms.draw,
-            positions.accounts,
-            positions.shorts,
+            &positions.account_list(),
             amounts,
         ),
         Method::Lottery | Method::RemainderDraw => allocate_started(
             start_by(terms.method),
             terms.exercised,
             terms.draw,
-            positions.accounts,
-            positions.shorts,
+            &positions.account_list(),
             amounts,
         ),
     }

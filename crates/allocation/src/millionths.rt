@@ -1,8 +1,7 @@
 // Contracts in millionths, a fixed-point number: the skip interval and the reserve.
-ghost use Rattle.std.specs.Prelude.{◌≡◌, ◌+◌, ◌/◌, ◌%◌, ◌<◌, ◌≤◌};
+ghost use Rattle.std.specs.Prelude.{◌≡◌, ◌+◌, ◌*◌, ◌/◌, ◌%◌, ◌^◌, ◌<◌, ◌≤◌};
 ghost use Rattle.series.specs.Series.{MOST_CONTRACTS};
 ghost use Rattle.series.specs.Wheel.{ONE, interval};
-ghost use Rattle.allocation.specs.Millionths.{millionths, Carried, SumFits};
 
 use series::Contracts;
 use std::ops::Add;
@@ -12,9 +11,12 @@ use std::ops::Add;
 pub struct Millionths {
     contracts: u32,
     decimals: u32,
+    ghost carried: { decimals < ONE },
 }
 
 impl Millionths {
+    ghost use Rattle.allocation.specs.Millionths.{millionths};
+
     // One contract.
     const ONE: u32 = 1_000_000;
 
@@ -27,7 +29,7 @@ impl Millionths {
     // The skip interval: T divided by T1 to six places, an exact half going up, less the increment, and zero where that is below zero.
     pub fn interval(total: Contracts, blocks: u32, increment: Contracts) -> Self
         requires { (total.0 ≤ MOST_CONTRACTS) × (0 < blocks) }
-        ensures { (millionths result ≡ interval increment.0 total.0 blocks) × Carried result }
+        ensures { millionths result ≡ interval increment.0 total.0 blocks }
     {
         let one = u64::from(Millionths::ONE);
         let wide = u64::from(blocks);
@@ -41,7 +43,6 @@ impl Millionths {
 
     // The whole contracts.
     pub fn whole(self) -> Contracts
-        requires { Carried self }
         ensures { result.0 ≡ millionths self / ONE }
     {
         Contracts(self.contracts)
@@ -49,7 +50,6 @@ impl Millionths {
 
     // The decimals.
     pub fn rest(self) -> Self
-        requires { Carried self }
         ensures { millionths result ≡ millionths self % ONE }
     {
         Millionths {
@@ -61,11 +61,13 @@ impl Millionths {
 
 // The sum: decimals that make a contract are carried.
 impl Add for Millionths {
+    ghost use Rattle.allocation.specs.Millionths.{millionths};
+
     type Output = Self;
 
-    ghost can_add = { SumFits };
+    ghost can_add = { λ a b. millionths a + millionths b < 2 ^ 32 * ONE };
 
-    ghost add_gives = { λ a b sum. (millionths sum ≡ millionths a + millionths b) × Carried sum };
+    ghost add_gives = { λ a b sum. millionths sum ≡ millionths a + millionths b };
 
     fn add(self, other: Self) -> Self {
         let contracts = self.contracts + other.contracts;

@@ -1,4 +1,4 @@
-// Runs over the contracts of a list, a position at a time.
+// Runs over the contracts of a list, a position at a time. What is asked of a place (`OnWheel`), of a list with its amounts (`Small`) or of one with a cursor (`Ahead`) has another T or bound at each call, so that no type has it.
 ghost use Rattle.std.specs.Prelude.{◌≡◌, true, ◌+◌, ◌*◌, ◌≤◌, get_or};
 ghost use Rattle.series.specs.Series.{MOST_CONTRACTS};
 ghost use Rattle.series.specs.Places.{total, run, OnWheel};
@@ -13,7 +13,7 @@ pub struct Cursor {
     pub passed: Contracts,
 }
 
-// Goes over count contracts, after the first passed ones of the list, as far as its end, and assigns them where ASSIGNS: the cursor after them, or how many are left.
+// Goes over count contracts, after the first passed ones of the list, as far as its end, and assigns them where ASSIGNS: the cursor after them, or how many are left. ASSIGNS is no argument: each step would test it.
 fn walk<const ASSIGNS: bool>(
     shorts: &[u32],
     amounts: &mut [u32],

@@ -32,42 +32,43 @@ impl Wheel {
     }
 }
 
-// Assigns blocks of contracts from the wheel's place on, all of them increment contracts but the last.
-fn assign_blocks(
-    shorts: &[u32],
-    amounts: &mut [u32],
-    mut wheel: Wheel,
-    blocks: u32,
-    increment: Contracts,
-    last: Contracts,
-)
-    requires { BlocksFit shorts.now amounts.old wheel blocks increment.0 last.0 }
-    ensures { Assigned shorts.now amounts.old amounts.new (marks_from shorts.now wheel blocks increment.0 last.0) }
+// The blocks of S contracts: how many there are, and all of them have increment contracts but the last.
+#[derive(Clone, Copy, Debug, PartialEq, Eq)]
+pub struct Blocks {
+    pub number: u32,
+    pub increment: Contracts,
+    pub last: Contracts,
+}
+
+impl Blocks {
+    // T1 is S divided by the increment, rounded up. The last block has what the whole ones before it leave of S.
+    fn of(exercised: Contracts, increment: Contracts) -> Self
+        requires increment { Increment increment.0 }
+        requires exercised { OnWheel MOST_CONTRACTS exercised.0 }
+        ensures number { result.number ≡ blocksOf increment.0 exercised.0 }
+        ensures increment { result.increment ≡ increment }
+        ensures last { result.last.0 ≡ exercised.0 - increment.0 * (result.number - 1) }
+    {
+        let number = exercised.0.div_ceil(increment.0);
+        let last = exercised.0 - increment.0 * (number - 1);
+        Blocks {
+            number,
+            increment,
+            last: Contracts(last),
+        }
+    }
+}
+
+// Assigns the blocks from the wheel's place on.
+fn assign_blocks(shorts: &[u32], amounts: &mut [u32], mut wheel: Wheel, blocks: Blocks)
+    requires { BlocksFit shorts.now amounts.old wheel blocks.number blocks.increment.0 blocks.last.0 }
+    ensures { Assigned shorts.now amounts.old amounts.new (marks_from shorts.now wheel blocks.number blocks.increment.0 blocks.last.0) }
 {
-    for _block in 1..blocks {
-        wheel.cursor = wheel.cursor.assign(shorts, amounts, increment);
+    for _block in 1..blocks.number {
+        wheel.cursor = wheel.cursor.assign(shorts, amounts, blocks.increment);
         wheel = wheel.skip(shorts);
     }
-    wheel.cursor.assign(shorts, amounts, last);
-}
-
-// The number of blocks T1: S divided by the increment, rounded up.
-fn block_count(exercised: Contracts, increment: Contracts) -> u32
-    requires increment { Increment increment.0 }
-    requires exercised_bound { exercised.0 ≤ MOST_CONTRACTS }
-    ensures { result ≡ blocksOf increment.0 exercised.0 }
-{
-    exercised.0.div_ceil(increment.0)
-}
-
-// The contracts of the last block: what the whole blocks before it leave of S.
-fn last_block(exercised: Contracts, increment: Contracts, blocks: u32) -> Contracts
-    requires increment { Increment increment.0 }
-    requires exercised_nonzero { 0 < exercised.0 }
-    requires blocks_value { blocks ≡ blocksOf increment.0 exercised.0 }
-    ensures { result.0 ≡ exercised.0 - increment.0 * (blocks - 1) }
-{
-    Contracts(exercised.0 - increment.0 * (blocks - 1))
+    wheel.cursor.assign(shorts, amounts, blocks.last);
 }
 
 // Assigns S contracts from the starting place on; the number of blocks, 0 where S equals T.
@@ -84,13 +85,12 @@ pub fn assign(list: &JudgedList, increment: Contracts, draw: u32, amounts: &mut 
         return 0;
     }
     amounts.fill(0);
-    let blocks = block_count(list.exercised, increment);
-    let last = last_block(list.exercised, increment, blocks);
+    let blocks = Blocks::of(list.exercised, increment);
     let first = Wheel {
         cursor: Cursor::seek(shorts, Place(draw)),
-        interval: Millionths::interval(list.total, blocks, increment),
+        interval: Millionths::interval(list.total, blocks.number, increment),
         reserve: Millionths::ZERO,
     };
-    assign_blocks(shorts, amounts, first, blocks, increment, last);
-    blocks
+    assign_blocks(shorts, amounts, first, blocks);
+    blocks.number
 }

@@ -8,6 +8,7 @@ ghost use Rattle.std.specs.Prelude.{◌≤◌, length};
 
 use forms::{Form, Listing};
 use series::{Allocated, Contracts, DEFAULT_INCREMENT, Method, Place, Refusal, terms_of};
+use text_words::letters::method_by;
 
 // What cannot be written is missing in the output, and the comparison shows it.
 fn print(rt: &impl Print, text: &[u8]) {
@@ -84,18 +85,12 @@ fn show(rt: &impl Print, letter: u8, listing: &Listing, room: usize) {
     match letter {
         b'l' => print_judged(rt, listing::judge_list(listing)),
         b'm' => print_judged(rt, listing::judge_list(&last_numbers)),
-        b'j' => print_judged(rt, judging::judge(&listing.series(listing.numbers), room)),
+        b'j' => {
+            let judged = judging::judge(&listing.series(listing.numbers), room);
+            print_judged(rt, judged.map(|list| list.total))
+        }
         b'b' => show_allocated(rt, &last_numbers, room),
         _ => show_allocated(rt, listing, room),
-    }
-}
-
-fn method_of(letter: u8) -> Method {
-    match letter {
-        b'P' => Method::ProRata,
-        b'L' => Method::Lottery,
-        b'R' => Method::RemainderDraw,
-        _ => Method::Wheel,
     }
 }
 
@@ -104,24 +99,28 @@ fn read_list(text: &[u8], list: &mut [u32]) -> usize
     ensures { result ≤ length list.new }
 {
     let mut n = 0;
-    let mut number: u32 = 0;
+    let mut number: usize = 0;
     for &byte in text {
         match byte {
             b' ' => {
                 if n < list.len() {
-                    list[n] = number;
+                    list[n] = (number % 4_294_967_296) as u32;
                     n += 1;
                 }
                 number = 0;
             }
-            b'*' => n = list.len().min(number as usize),
-            _ => number = number.wrapping_mul(10).wrapping_add((byte % 16) as u32),
+            b'*' => {
+                if number <= list.len() {
+                    n = number;
+                }
+            }
+            _ => number = number % 4_294_967_296 * 10 + (byte % 16) as usize,
         }
     }
     n
 }
 
-// Shows what the lists of a line come to.
+// Shows what four lists come to, each ended by a semicolon.
 fn show_lists(rt: &impl Print, letter: u8, method: Method, text: &[u8]) {
     let mut values = [0, 0, 0, DEFAULT_INCREMENT];
     let mut codes = [1u32; 4097];
@@ -143,16 +142,20 @@ fn show_lists(rt: &impl Print, letter: u8, method: Method, text: &[u8]) {
     show(rt, letter, &listing, room as usize);
 }
 
-// Shows a line.
-fn show_line(rt: &impl Print, line: &[u8]) {
-    let Some(colon) = line.iter().position(|&byte| byte == b':') else {
+// Shows the line that a text begins with. What is missing in it is looked for in the lines after it.
+fn show_line(rt: &impl Print, text: &[u8]) {
+    let Some(colon) = text.iter().position(|&byte| byte == b':') else {
         return;
     };
-    let [letter, method, lists @ ..] = &line[colon + 1..] else {
+    let [letter, method, lists @ ..] = &text[colon + 1..] else {
         return;
     };
-    print(rt, &line[..colon + 1]);
-    show_lists(rt, *letter, method_of(*method), lists);
+    if lists.is_empty() {
+        return;
+    }
+    print(rt, &text[..colon + 1]);
+    let named = method_by(*method).unwrap_or(Method::Wheel);
+    show_lists(rt, *letter, named, lists);
     print(rt, b"\n");
 }
 
@@ -161,9 +164,11 @@ fn main(rt: HostRuntime) {
     let Ok(n) = console::read_input(&mut rt.stdin(), &mut text) else {
         return;
     };
+    let mut at: usize = 0;
     for line in text[..n].split(|&byte| byte == b'\n') {
         if !line.starts_with(b"#") {
-            show_line(&rt, line);
+            show_line(&rt, text.get(at..).unwrap_or(&[]));
         }
+        at = at.saturating_add(line.len() + 1);
     }
 }

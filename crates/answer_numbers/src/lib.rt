@@ -8,7 +8,7 @@ ghost use Rattle.answer_numbers.specs.Numbers.{form_by, form_number, handing, ha
 use forms::Form;
 use series::{Allocated, Place, Refusal};
 
-// The form of a number: 0 is shorts, any other number last numbers. No From: an impl names a type of its crate, and Form is not of this one.
+// The form of a number: 0 is shorts, any other number last numbers. No From: an impl would stand beside Form, in `forms`, and what the numbers of C mean is defined here.
 #[tactic(auto, unfolding(crate::specs::Numbers::form_by))]
 pub fn form_by(number: u32) -> Form
     ensures { result ≡ form_by number }

@@ -1,6 +1,7 @@
 // From a text to the bytes that the program prints.
 #![tactic(auto)]
 
+mod printed_allocation;
 mod ranges;
 
 ghost use Rattle.std.specs.Prelude.{◌≡◌, ◌≤◌, ◌++◌, length};
@@ -15,6 +16,7 @@ ghost use Rattle.responses.specs.Responses.{Responds, RespondsFor};
 ghost use Rattle.assignment_text.specs.Lists.{Lists};
 
 use forms::Form;
+use printed_allocation::PrintedAllocation;
 use ranges::Ranges;
 use responses::{Response, answer_written, refuse};
 use series::{Method, Positions, Series, Terms};
@@ -27,35 +29,34 @@ const ASSIGNED_NAMES: [u8; 17] = *b"account,assigned\n";
 const RANGE_NAMES: [u8; 32] = *b"account,first,last,first2,last2\n";
 
 // Prints the amounts of an allocation.
-fn print(accounts: &[u32], amounts: &[u32], output: &mut [u8]) -> Response
-    requires { (length accounts.now ≡ length amounts.now) × (length accounts.now ≤ MOST_LINES) }
-    ensures { Responds result (assigned_lines accounts.now amounts.now) 0 output.old output.new }
+fn print(allocation: &PrintedAllocation, output: &mut [u8]) -> Response
+    ensures { Responds result (assigned_lines allocation.now.accounts.now allocation.now.amounts.now) 0 output.old output.new }
 {
-    answer_written(text_writing::write_table(&ASSIGNED_NAMES, accounts, amounts, output))
+    answer_written(text_writing::write_table(
+        &ASSIGNED_NAMES,
+        allocation.accounts,
+        allocation.amounts,
+        output,
+    ))
 }
 
 // Prints the amounts of an allocation and the ranges of its positions. Built into respond, its lists would take the stack of a call past 64 KB.
 #[inline(never)]
-fn print_with_ranges(
-    accounts: &[u32],
-    shorts: &[u32],
-    amounts: &[u32],
-    output: &mut [u8],
-) -> Response
-    requires { Lists accounts.now shorts.now amounts.now × (total_of shorts.now ≤ MOST_CONTRACTS) }
-    ensures { Responds result (assigned_lines accounts.now amounts.now ++ range_lines accounts.now shorts.now) 0 output.old output.new }
+fn print_with_ranges(allocation: &PrintedAllocation, output: &mut [u8]) -> Response
+    ensures { Responds result (assigned_lines allocation.now.accounts.now allocation.now.amounts.now ++ range_lines allocation.now.accounts.now allocation.now.shorts.now) 0 output.old output.new }
 {
-    let n = shorts.len();
+    let accounts = allocation.accounts;
+    let n = allocation.shorts.len();
     let mut ranges = Ranges {
         firsts: [0; 1024],
         lasts: [0; 1024],
         firsts2: [0; 1024],
         lasts2: [0; 1024],
     };
-    ranges::fill(shorts, &mut ranges);
+    ranges::fill(allocation.shorts, &mut ranges);
     let first = Table {
         names: &ASSIGNED_NAMES,
-        columns: &[accounts, amounts],
+        columns: &[accounts, allocation.amounts],
     };
     let second = Table {
         names: &RANGE_NAMES,
@@ -71,16 +72,12 @@ fn print_with_ranges(
 }
 
 // Prints an allocation by the method: its amounts, and under R the ranges after them.
-fn print_by(series: &Series, amounts: &[u32], output: &mut [u8]) -> Response
-    requires { Lists (series_of series.now).accounts (series_of series.now).shorts amounts.now × (total_of (series_of series.now).shorts ≤ MOST_CONTRACTS) }
-    ensures { Responds result (assigned_lines (series_of series.now).accounts amounts.now ++ ranges_by series.now.terms.method (series_of series.now).accounts (series_of series.now).shorts) 0 output.old output.new }
+fn print_by(method: Method, allocation: &PrintedAllocation, output: &mut [u8]) -> Response
+    ensures { Responds result (assigned_lines allocation.now.accounts.now allocation.now.amounts.now ++ ranges_by method allocation.now.accounts.now allocation.now.shorts.now) 0 output.old output.new }
 {
-    let positions = series.positions;
-    match series.terms.method {
-        Method::RemainderDraw => {
-            print_with_ranges(positions.accounts, positions.shorts, amounts, output)
-        }
-        _ => print(positions.accounts, amounts, output),
+    match method {
+        Method::RemainderDraw => print_with_ranges(allocation, output),
+        _ => print(allocation, output),
     }
 }
 
@@ -90,12 +87,19 @@ fn assign(form: Form, series: &Series, amounts: &mut [u32], output: &mut [u8]) -
     ensures { RespondsFor result (series_or_refusal form (series_of series.now)) output.old output.new }
 {
     match allocation::allocate(series, amounts) {
-        Ok(_) => print_by(series, amounts, output),
+        Ok(_) => {
+            let allocation = PrintedAllocation {
+                accounts: series.positions.accounts,
+                shorts: series.positions.shorts,
+                amounts,
+            };
+            print_by(series.terms.method, &allocation, output)
+        }
         Err(refusal) => refuse(forms::refusal_in(form, refusal), output),
     }
 }
 
-// Assigns a listed series of at most 1,024 positions; its shorts are put in the place of its numbers.
+// Assigns a listed series of at most 1,024 positions. No Listing: its shorts are put in the place of its numbers, so that the call needs no list more.
 fn assign_listing(
     form: Form,
     terms: Terms,
@@ -124,7 +128,7 @@ fn assign_listing(
 pub fn respond(text: &[u8], output: &mut [u8]) -> Response
     ensures { Responds result (printed text.now) (status (text_or_refusal text.now)) output.old output.new }
 {
-    // Three lists, as reading fills lent ones, and one for the amounts.
+    // Three lists, since reading fills the three that C lends it, and keeps them after a refusal; and one for the amounts.
     let mut codes = [0; 1024];
     let mut accounts = [0; 1024];
     let mut numbers = [0; 1024];

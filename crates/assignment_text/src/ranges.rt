@@ -9,7 +9,7 @@ ghost use Rattle.responses.specs.Printed.{range_columns};
 
 use series::Contracts;
 
-// The ranges of at most 1,024 positions: the numbers of the first ranges and of the second, and past those of the last position zeros.
+// The ranges of at most 1,024 positions: the numbers of the first ranges and of the second, and past those of the last position zeros. Arrays, as the project has no heap.
 #[derive(Drop)]
 pub struct Ranges {
     pub firsts: [u32; 1024],
@@ -44,7 +44,7 @@ fn fill_second(numbers: &[u32], total: Contracts, raised: &mut [u32])
     }
 }
 
-// Fills in both ranges of each position: with the accounts they are the columns that are printed.
+// Fills in both ranges of each position, of a judged list by its shorts alone, so that T is asked for: with the accounts they are the columns that are printed.
 pub fn fill(shorts: &[u32], ranges: &mut Ranges)
     requires { (length shorts.now ≤ MOST_LINES) × (total_of shorts.now ≤ MOST_CONTRACTS) }
     ensures { (accounts : List ℕ) → accounts ∷ take (length shorts.now) ranges.new.firsts ∷ take (length shorts.now) ranges.new.lasts ∷ take (length shorts.now) ranges.new.firsts2 ∷ take (length shorts.now) ranges.new.lasts2 ∷ [] ≡ range_columns accounts shorts.now }

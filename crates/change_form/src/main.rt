@@ -37,7 +37,7 @@ fn respond(text: &[u8], output: &mut [u8]) -> Response
     }
 }
 
-// The main of the other program differs in its words, its room and its call: one function for both would take seven parameters and be no plainer.
+// The main of the other program differs in its words, its room and its call: one function for both would take six parameters, one of them a function, and be no plainer.
 fn main(rt: HostRuntime) {
     let mut input = console::input_buffer();
     let mut output = output_buffer();

@@ -18,7 +18,7 @@ use std::io::{ErrorKind, Read, Write};
 #[derive(Clone, Copy, Debug, PartialEq, Eq)]
 pub struct ReadFailed;
 
-// A program: its name, and what it says where its output is cut short.
+// A program: its name, and what it says where its output is cut short. The streams are handed on one by one: in a struct of loans each promise would speak of what is lent behind it.
 #[derive(Clone, Copy)]
 pub struct Program<'a> {
     pub name: &'a [u8],

@@ -8,7 +8,7 @@ ghost use Rattle.dilbreth.specs.Exports.{Hands};
 use activity_rules::{Day, Investor, MarketMaker, Transactions};
 use series::Contracts;
 
-// The kind of day by its number in C: 0 is ordinary, any other the final trading day.
+// The kind of day by its number in C: 0 is ordinary, any other the final trading day. No From: an impl would stand beside Day, which knows no numbers of C.
 fn day_by(number: u32) -> Day
     ensures { result ≡ day_by number }
 {

@@ -16,7 +16,7 @@ ghost use Rattle.dilbreth.specs.Exports.{listing_by, Allocates, Reads, written_b
 use answer_numbers::{form_by, number_of, numbers_of};
 use forms::Listing;
 use jobs::Job;
-use series::{Contracts, Refusal, terms_of};
+use series::{AccountList, Contracts, Refusal, terms_of};
 use text_words::letters::{letter_of, method_by};
 
 // Assigns exercised contracts by the method W, P, L or R; any other letter is 14.
@@ -66,7 +66,7 @@ pub extern "C" fn dilbreth_allocate_jobs(
 ) -> u32
     ensures { JobsCall accounts.now shorts.now result (lent jobs.old jobs.new) (lent amounts.old amounts.new) }
 {
-    match jobs::allocate_jobs(accounts, shorts, jobs, amounts) {
+    match jobs::allocate_jobs(&AccountList { accounts, shorts }, jobs, amounts) {
         Ok(()) => 0,
         Err(refusal) => u32::from(refusal),
     }
@@ -120,7 +120,7 @@ fn hand_length(writing: Result<usize, Refusal>, written: &mut usize) -> u32
     }
 }
 
-// Writes the text of a series; any letter but W, P, L and R is 14 before the other refusals.
+// Writes the text of a series; any letter but W, P, L and R is 14 before the other refusals. The listing is made as in dilbreth_allocate: a function for both would take the same eight arguments.
 #[unsafe(no_mangle)]
 pub extern "C" fn dilbreth_write(
     method: u8,
@@ -158,7 +158,7 @@ pub extern "C" fn dilbreth_change(text: &[u8], output: &mut [u8], written: &mut 
     hand_length(writing, written)
 }
 
-// Writes what the program prints for a text: the amounts, or the refusal of the text, which is no refusal of this call.
+// Writes what the program prints for a text: the amounts, or the refusal of the text, which is no refusal of this call. No bytes are answered only where the output is too short.
 #[unsafe(no_mangle)]
 pub extern "C" fn dilbreth_respond(text: &[u8], output: &mut [u8], written: &mut usize) -> u32
     ensures { Writes (printed_into text.now (length output.old)) result output.old output.new (lent written.old written.new) }

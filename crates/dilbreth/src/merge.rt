@@ -4,7 +4,7 @@ ghost use Rattle.series.specs.Outputs.{lent};
 ghost use Rattle.merging.specs.Merging.{list_of, merge_into};
 ghost use Rattle.dilbreth.specs.Exports.{HandsMerged};
 
-use merging::AccountList;
+use series::AccountList;
 
 // Merges two lists that rise by account, and hands back the number of positions and T.
 #[unsafe(no_mangle)]

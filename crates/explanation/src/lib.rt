@@ -15,12 +15,12 @@ fn put(words: &[u8], line: &mut [u8]) -> usize
     ensures line_after { line.new ≡ onto_room words.now line.old }
 {
     if words.len() <= line.len() {
-        lists::copy(words, &mut line[..words.len()]);
+        lists::copy(words, line);
     }
     words.len()
 }
 
-// The line for a refusal's number. No Display: the number comes from C, and the line is written where it fits.
+// The line for a refusal's number. No Display: C asks for any number, and the line is written where it fits.
 #[tactic(auto, unfolding(crate::specs::Explanation::explanation, crate::specs::Explanation::refusals, crate::specs::Explanation::no_refusal, series::specs::Ascii::ascii))]
 fn words(number: u32) -> &'static [u8]
     ensures { result.now ≡ explanation number }

@@ -6,7 +6,7 @@ use mathlib.Core.List.{List, [], ◌∷◌, ◌++◌}
 use native.Mathlib.Omega.{arith}
 use lib.Dec.{eqb}
 use lib.ListN.{length, get_or}
-use borrow.Author.Tests.{ltb-false, eqb-false, eqb-true, not-false, ne_eqb}
+use borrow.Author.Tests.{ltb-false, eqb-false, eqb-true, not-false}
 use Rattle.std.specs.Prelude.{Ok, Err, Result as Result·}
 use Rattle.series.specs.Results.{Result, refused, value, ◌>>=◌}
 use Rattle.series.specs.Sums.{listed}
@@ -37,14 +37,14 @@ in_shorts (refused n) = refl
 in_shorts (value a) = refl
 
 -- judging shorts alone
-pub by_shorts : (f : Form) (m : Method) (codes accounts ns : List ℕ) → f ≡ Form.Shorts → list_verdict m codes accounts ns ≡ list_verdict_in f m codes accounts ns
+pub by_shorts : (m : Method) (codes accounts ns : List ℕ) → list_verdict m codes accounts ns ≡ list_verdict_in Form.Shorts m codes accounts ns
 unfolding list_verdict_in
-by_shorts f m codes accounts ns e = rw e (sym (in_shorts (list_verdict m codes accounts ns)))
+by_shorts m codes accounts ns = sym (in_shorts (list_verdict m codes accounts ns))
 
 -- judging the shorts of last numbers alone
-pub by_differences : (f : Form) (m : Method) (codes accounts ns hs : List ℕ) (b : Result ℕ) → f ≡ Form.LastNumbers → hs ≡ differences 0 ns → b ≡ in_form Form.LastNumbers (list_verdict m codes accounts hs) → b ≡ list_verdict_in f m codes accounts ns
+pub by_differences : (m : Method) (codes accounts ns hs : List ℕ) (b : Result ℕ) → hs ≡ differences 0 ns → b ≡ in_form Form.LastNumbers (list_verdict m codes accounts hs) → b ≡ list_verdict_in Form.LastNumbers m codes accounts ns
 unfolding list_verdict_in
-by_differences f m codes accounts ns hs b e is eb = rw e (rw is at eb)
+by_differences m codes accounts ns hs b is eb = rw is at eb
 
 pub length-differences : (b : ℕ) (ns : List ℕ) → length (differences b ns) ≡ length ns
 unfolding differences
@@ -252,13 +252,3 @@ six_free f (r ∷ rows) a h = step r.holds (six_free f rows a h.1)
     step : (b : Bool) → in_form f (first rows a) ≡ first rows a → in_form f (cond b (refused r.number) (first rows a)) ≡ cond b (refused r.number) (first rows a)
     step true e = ap refused (same_number f r.number h.0)
     step false e = e
-
--- the number of a refusal in each form
-pub as_it_is : (f : Form) (n : ℕ) → f ≡ Form.Shorts → n ≡ number_in f n
-as_it_is f n e = rw e refl
-
-pub twenty_for_six : (f : Form) (n : ℕ) → f ≡ Form.LastNumbers → n ≡ 6 → 20 ≡ number_in f n
-twenty_for_six f n e six = rw e (rw six refl)
-
-pub as_other : (f : Form) (n : ℕ) → (n ≡ 6 → ⊥) → n ≡ number_in f n
-as_other f n other = sym (same_number f n (ne_eqb n 6 other))

@@ -24,6 +24,10 @@ pub record Listing : Type 0 where
 abbrev pub listing_of : Listing· → Listing
 listing_of l = record { form = l.form; terms = l.terms; codes = l.codes.now; accounts = l.accounts.now; numbers = l.numbers.now }
 
+-- a listing read in a form, whatever its own
+abbrev pub read_as : Form → Listing → Listing
+read_as f l = record { form = f; terms = l.terms; codes = l.codes; accounts = l.accounts; numbers = l.numbers }
+
 -- the differences of last numbers, the first one from the number before it; 0 where one is not above the one before
 unfoldable pub differences : ℕ → List ℕ → List ℕ
 differences before [] = []

@@ -43,7 +43,7 @@ impl<'a> Listing<'a> {
     }
 }
 
-// The other form.
+// The other form, which is what document 02 names a change: no conversion, and no operator's meaning.
 pub fn other(form: Form) -> Form
     ensures { result ≡ other_form form }
 {
@@ -96,7 +96,7 @@ pub fn to_shorts(form: Form, numbers: &mut [u32])
     }
 }
 
-// Fills in the shorts of last numbers, for as many positions as both lists have; elements past them are kept.
+// Fills in the shorts of last numbers, for as many positions as both lists have; elements past them are kept. It and `take_differences` share one law (`Filling`): by that one a copy would come first, a pass more.
 pub fn fill_shorts(lasts: &[u32], shorts: &mut [u32])
     ensures { shorts.new ≡ onto (take (length shorts.old) (differences 0 lasts.now)) shorts.old }
 {

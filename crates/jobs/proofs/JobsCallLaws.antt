@@ -5,6 +5,7 @@ use mathlib.Core.List.{List}
 use Prim.Native.Nat.{ℕ, suc}
 use native.Mathlib.Omega.{arith}
 use lib.ListN.{length}
+use Rattle.std.specs.Prelude.{Option}
 use Rattle.series.specs.Results.{Result, refused, value, status}
 use Rattle.series.specs.Outputs.{lent}
 use Rattle.jobs.specs.declared.Job.{Job}
@@ -25,11 +26,11 @@ module _ (accounts shorts : List ℕ) (js : List Job) (old : List ℕ) where
   Verdict = jobs_verdict accounts shorts js (length old)
 
   -- what `judge` says of its answer r, by the lengths and the end of the last stretch
-  abbrev pub Judged : ℕ → Result Unit → Type 0
+  abbrev pub Judged : Option ℕ → Result Unit → Type 0
   Judged end r = (given held : List ℕ) (ks : List Job) → Measured given held ks (length accounts) (length shorts) (length js) end → r ≡ jobs_verdict given held ks (length old)
 
   -- of these lists it is that
-  pub answers : (end : ℕ) (r : Result Unit) → end ≡ last_end js 0 → Judged end r → r ≡ Verdict
+  pub answers : (end : Option ℕ) (r : Result Unit) → end ≡ last_end js 0 → Judged end r → r ≡ Verdict
   answers end r e judges = judges accounts shorts js (record { accounts_length = refl; shorts_length = refl; jobs_length = refl; last_end_is = sym e })
 
   -- refused before any job: records and output are kept

@@ -1,5 +1,5 @@
 -- The verdict on the call: from lengths and the end of the last stretch, and as the rows of a list.
-use Prim.Native.Nat.{ℕ, ◌≤◌}
+use Prim.Native.Nat.{ℕ}
 use mathlib.Core.Path.{◌≡◌, refl, sym}
 use mathlib.Core.Bool.{Bool, true, false, not, ◌||◌, cond}
 use mathlib.Core.List.{List, [], ◌∷◌, ◌++◌}
@@ -9,14 +9,13 @@ use lib.ListN.{length}
 use Rattle.series.specs.Results.{Result, refused}
 use Rattle.series.specs.Refusals.{◌⟶◌∣◌, first, length_rows, room_rows, stands_in, without}
 use Rattle.jobs.specs.declared.Job.{Job}
-use Rattle.series.specs.Series.{MOST_POSITIONS}
 use Rattle.jobs.specs.Jobs.{MOST_JOBS, misplaced, jobs_rows, jobs_verdict}
 use Rattle.jobs.specs.Turns.{last_end}
-use Rattle.jobs.proofs.StretchLaws.{end_tells}
+use Rattle.jobs.proofs.StretchLaws.{past, end_tells}
 
--- in a list of at most 4,096 positions the end of the last stretch tells 22; a longer one is refused before
-pub laid_by_end : (js : List Job) (n : ℕ) → n ≤ MOST_POSITIONS → misplaced js 0 n ≡ ltb n (last_end js 0)
-laid_by_end js n few = sym (end_tells js 0 n (omega arith) (omega arith))
+-- the end of the last stretch tells 22
+pub laid_by_end : (js : List Job) (n : ℕ) → misplaced js 0 n ≡ past n (last_end js 0)
+laid_by_end js n = sym (end_tells js 0 n (omega arith))
 
 -- 1, 2 and 4 are the rows of a list whose codes are its accounts, 3 left out; 21 and 22 come below them
 pub list_rows_lem : (accounts shorts : List ℕ) (js : List Job) (room : ℕ)

@@ -1,5 +1,5 @@
 -- Where the stretches of the jobs lie.
-use mathlib.Core.Path.{◌≡◌, refl, ◌∙◌}
+use mathlib.Core.Path.{◌≡◌, refl}
 use mathlib.Core.Bool.{Bool, true, false, cond, ◌||◌, true≢false}
 use mathlib.Core.List.{List, [], ◌∷◌}
 use Prim.Native.Nat.{ℕ, zero, suc, ◌≤◌, ◌<◌}
@@ -8,36 +8,43 @@ use native.Mathlib.Omega.{arith}
 use lib.Dec.{ltb}
 use lib.ListN.{length, get_or}
 use borrow.Author.Tests.{lt-ltb, le-ltb, ltb-true, ltb-false}
+use Rattle.std.specs.Prelude.{Option, None, Some}
+use Rattle.std.specs.Option.{option_and_then}
 use Rattle.jobs.specs.declared.Job.{Job}
 use Rattle.jobs.specs.Jobs.{ending, misplaced}
-use Rattle.jobs.specs.Turns.{no_job, BEYOND, next_end, last_end}
+use Rattle.jobs.specs.Turns.{no_job, last_end}
+
+-- an end that is none, or past a list of n elements
+abbrev pub past : ℕ → Option ℕ → Bool
+past n None = true
+past n (Some e) = ltb n e
 
 -- past a list it stays past it
-stays_past : (js : List Job) (e n : ℕ) → n < BEYOND → n < e → n < last_end js e
+stays_past : (js : List Job) (e n : ℕ) → n < e → past n (last_end js e) ≡ true
 unfolding last_end
-stays_past [] e n h l = l
-stays_past (j ∷ js) e n h l = stays_past js (next_end j e) n h (by_test (ltb j.first e) refl)
+stays_past [] e n l = lt-ltb _ _ l
+stays_past (j ∷ js) e n l = by_test (ltb j.first e) refl (stays_past js (ending j) n)
   where
-    by_test : (y : Bool) → ltb j.first e ≡ y → n < cond y BEYOND (ending j)
-    by_test true t = h
-    by_test false t = omega (arith, ltb-false j.first e t)
+    by_test : (y : Bool) → ltb j.first e ≡ y → (n < ending j → past n (last_end js (ending j)) ≡ true) → past n (option_and_then (last_end js) (cond y None (Some (ending j)))) ≡ true
+    by_test true t rest = refl
+    by_test false t rest = rest (omega (arith, ltb-false j.first e t))
 
 -- the end of the last stretch tells whether one is misplaced
-pub end_tells : (js : List Job) (e n : ℕ) → n < BEYOND → e ≤ n → ltb n (last_end js e) ≡ misplaced js e n
+pub end_tells : (js : List Job) (e n : ℕ) → e ≤ n → past n (last_end js e) ≡ misplaced js e n
 unfolding last_end misplaced
-end_tells [] e n h l = le-ltb n e l
-end_tells (j ∷ js) e n h l = by_begin (ltb j.first e) (λ m. end_tells js (ending j) n h m)
+end_tells [] e n l = le-ltb n e l
+end_tells (j ∷ js) e n l = by_begin (ltb j.first e) (λ m. end_tells js (ending j) n m)
   where
-    by_end : (z : Bool) → ltb n (ending j) ≡ z → (ending j ≤ n → ltb n (last_end js (ending j)) ≡ misplaced js (ending j) n) → ltb n (last_end js (ending j)) ≡ ((z || false) || misplaced js (ending j) n)
-    by_end true u rest = lt-ltb _ _ (stays_past js (ending j) n h (ltb-true n (ending j) u))
+    by_end : (z : Bool) → ltb n (ending j) ≡ z → (ending j ≤ n → past n (last_end js (ending j)) ≡ misplaced js (ending j) n) → past n (last_end js (ending j)) ≡ ((z || false) || misplaced js (ending j) n)
+    by_end true u rest = stays_past js (ending j) n (ltb-true n (ending j) u)
     by_end false u rest = rest (ltb-false n (ending j) u)
 
     either : (z rest : Bool) → true ≡ ((z || true) || rest)
     either true rest = refl
     either false rest = refl
 
-    by_begin : (y : Bool) → (ending j ≤ n → ltb n (last_end js (ending j)) ≡ misplaced js (ending j) n) → ltb n (last_end js (cond y BEYOND (ending j))) ≡ ((ltb n (ending j) || y) || misplaced js (ending j) n)
-    by_begin true rest = lt-ltb _ _ (stays_past js BEYOND n h h) ∙ either (ltb n (ending j)) (misplaced js (ending j) n)
+    by_begin : (y : Bool) → (ending j ≤ n → past n (last_end js (ending j)) ≡ misplaced js (ending j) n) → past n (option_and_then (last_end js) (cond y None (Some (ending j)))) ≡ ((ltb n (ending j) || y) || misplaced js (ending j) n)
+    by_begin true rest = either (ltb n (ending j)) (misplaced js (ending j) n)
     by_begin false rest = by_end (ltb n (ending j)) refl rest
 
 -- of jobs that are not misplaced the first begins at e or later and ends in the list, and the others are not misplaced after it

@@ -1,5 +1,6 @@
 -- What the functions under the call ask and promise.
-use Rattle.std.specs.Prelude.{ℕ, ◌≤◌, ◌<◌, ◌≡◌, cond, List, [], ◌∷◌, ltb, length, get_or}
+use Rattle.std.specs.Prelude.{ℕ, ◌≤◌, ◌<◌, ◌≡◌, cond, List, [], ◌∷◌, ltb, length, get_or, Option, None, Some}
+use Rattle.std.specs.Option.{option_and_then}
 use Rattle.series.specs.Outputs.{Lent}
 use Rattle.jobs.specs.Jobs.{ending, record_after, output_after, records_after, output_after_all}
 use Rattle.jobs.specs.declared.Job.{Job}
@@ -8,21 +9,17 @@ use Rattle.jobs.specs.declared.Job.{Job}
 abbrev pub no_job : Job
 no_job = record { first = 0; positions = 0; method = 0; exercised = 0; draw = 0; increment = 0; answer = record { refusal = 0; total = 0; further = 0 } }
 
--- an end that no list reaches: above every first position plus number
-abbrev pub BEYOND : ℕ
-BEYOND = 8589934592
+-- where the stretch of a job ends, after one that ended at e; none where it begins before that
+abbrev pub next_end : Job → ℕ → Option ℕ
+next_end j e = cond (ltb j.first e) None (Some (ending j))
 
--- where the stretch of a job ends, after one that ended at e; beyond every list where it begins before that
-abbrev pub next_end : Job → ℕ → ℕ
-next_end j e = cond (ltb j.first e) BEYOND (ending j)
-
--- where the last of the stretches ends, after one that ended at e
-unfoldable pub last_end : List Job → ℕ → ℕ
-last_end [] e = e
-last_end (j ∷ js) e = last_end js (next_end j e)
+-- where the last of the stretches ends, after one that ended at e; none where one begins before the previous one ended
+unfoldable pub last_end : List Job → ℕ → Option ℕ
+last_end [] e = Some e
+last_end (j ∷ js) e = option_and_then (last_end js) (next_end j e)
 
 -- lists of these lengths, and jobs of this number whose last stretch ends there
-pub record Measured (accounts shorts : List ℕ) (js : List Job) (a s n e : ℕ) : Type 0 where
+pub record Measured (accounts shorts : List ℕ) (js : List Job) (a s n : ℕ) (e : Option ℕ) : Type 0 where
   pub accounts_length : length accounts ≡ a
   pub shorts_length : length shorts ≡ s
   pub jobs_length : length js ≡ n

@@ -11,17 +11,11 @@ ghost use Rattle.jobs.specs.Turns.{next_end, last_end, Measured, InPlace, AllInP
 ghost use Rattle.jobs.specs.declared.Job.{Job as Job·};
 
 use answer_numbers::{Numbers, numbers_of};
-use series::{Contracts, Positions, Refusal, Series, terms_of};
+use series::{AccountList, Contracts, MOST_POSITIONS, Refusal, Series, terms_of};
 use text_words::letters::method_by;
-
-// A list has at most so many positions.
-const MOST_POSITIONS: usize = 4096;
 
 // At most so many jobs.
 const MOST_JOBS: usize = 64;
-
-// An end that no list reaches: above every first position plus number of positions.
-const BEYOND: usize = 8_589_934_592;
 
 // What a job hands back, in numbers that C reads: 0, T and the further number, or the number of its refusal, and then the other two are kept.
 #[repr(C)]
@@ -47,14 +41,9 @@ pub struct Job {
 
 // The allocating call of a job on lists and an output of its own, with the accounts as codes.
 #[tactic(auto, unfolding(crate::specs::Jobs::job_answer, crate::specs::Jobs::job_output, answer_numbers::specs::Numbers::handed_numbers))]
-fn call_job(
-    job: &Job,
-    accounts: &[u32],
-    shorts: &[u32],
-    amounts: &mut [u32],
-) -> Result<Numbers, Refusal>
-    ensures answered { numbers_mean result ≡ handed_numbers (job_answer job.now accounts.now shorts.now (length amounts.old)) }
-    ensures written { amounts.new ≡ job_output job.now accounts.now shorts.now amounts.old }
+fn call_job(job: &Job, list: &AccountList, amounts: &mut [u32]) -> Result<Numbers, Refusal>
+    ensures answered { numbers_mean result ≡ handed_numbers (job_answer job.now list.now.accounts.now list.now.shorts.now (length amounts.old)) }
+    ensures written { amounts.new ≡ job_output job.now list.now.accounts.now list.now.shorts.now amounts.old }
 {
     let Some(method) = method_by(job.method) else {
         return Err(Refusal::UnknownMethod);
@@ -65,12 +54,10 @@ fn call_job(
         job.draw,
         Contracts(job.increment),
     );
-    let positions = Positions {
-        codes: accounts,
-        accounts,
-        shorts,
+    let series = Series {
+        terms,
+        positions: list.positions(),
     };
-    let series = Series { terms, positions };
     numbers_of(allocation::allocate(&series, amounts))
 }
 
@@ -93,18 +80,17 @@ fn recorded(kept: JobAnswer, outcome: Result<Numbers, Refusal>) -> JobAnswer
 }
 
 // One job on its stretch of the lists, its part of the output lent on: the record with its answer.
-fn run_job(accounts: &[u32], shorts: &[u32], job: Job, amounts: &mut [u32]) -> Job
-    requires { InPlace job accounts.now shorts.now amounts.old }
-    ensures { JobDone job accounts.now shorts.now result amounts.old amounts.new }
+fn run_job(list: &AccountList, job: Job, amounts: &mut [u32]) -> Job
+    requires { InPlace job list.now.accounts.now list.now.shorts.now amounts.old }
+    ensures { JobDone job list.now.accounts.now list.now.shorts.now result amounts.old amounts.new }
 {
     let first = job.first as usize;
     let end = first + job.positions as usize;
-    let outcome = call_job(
-        &job,
-        &accounts[first..end],
-        &shorts[first..end],
-        &mut amounts[first..end],
-    );
+    let stretch = AccountList {
+        accounts: &list.accounts[first..end],
+        shorts: &list.shorts[first..end],
+    };
+    let outcome = call_job(&job, &stretch, &mut amounts[first..end]);
     Job {
         answer: recorded(job.answer, outcome),
         ..job
@@ -112,36 +98,36 @@ fn run_job(accounts: &[u32], shorts: &[u32], job: Job, amounts: &mut [u32]) -> J
 }
 
 // Every job in turn.
-fn run_jobs(accounts: &[u32], shorts: &[u32], jobs: &mut [Job], amounts: &mut [u32])
-    requires { AllInPlace jobs.old accounts.now shorts.now amounts.old }
-    ensures { JobsDone accounts.now shorts.now (lent jobs.old jobs.new) (lent amounts.old amounts.new) }
+fn run_jobs(list: &AccountList, jobs: &mut [Job], amounts: &mut [u32])
+    requires { AllInPlace jobs.old list.now.accounts.now list.now.shorts.now amounts.old }
+    ensures { JobsDone list.now.accounts.now list.now.shorts.now (lent jobs.old jobs.new) (lent amounts.old amounts.new) }
 {
     for job in jobs.iter_mut() {
-        *job = run_job(accounts, shorts, *job, amounts);
+        *job = run_job(list, *job, amounts);
     }
 }
 
-// Where the stretch of a job ends, after one that ended at `end`; beyond every list where it begins before that.
-fn next_end(job: Job, end: usize) -> usize
+// Where the stretch of a job ends, after one that ended at `end`; none where it begins before that.
+fn next_end(job: Job, end: usize) -> Option<usize>
     ensures { result ≡ next_end job end }
 {
     let first = job.first as usize;
     if first < end {
-        return BEYOND;
+        return None;
     }
-    first + job.positions as usize
+    Some(first + job.positions as usize)
 }
 
-// Where the last stretch ends; beyond every list where one begins before the previous one ended.
-#[tactic(auto, using(crate::proofs::Ends::goes_on, crate::proofs::Ends::ends))]
-fn last_end(jobs: &[Job]) -> usize
+// Where the last stretch ends; none where one begins before the previous one ended.
+#[tactic(auto, using(crate::proofs::Ends::goes_on, crate::proofs::Ends::stops, crate::proofs::Ends::ends))]
+fn last_end(jobs: &[Job]) -> Option<usize>
     ensures { result ≡ last_end jobs.now 0 }
 {
     let mut end = 0;
     for job in jobs {
-        end = next_end(*job, end);
+        end = next_end(*job, end)?;
     }
-    end
+    Some(end)
 }
 
 // The refusals before any job, by the lengths and the end of the last stretch.
@@ -151,7 +137,7 @@ fn judge(
     shorts: usize,
     amounts: usize,
     jobs: usize,
-    end: usize,
+    end: Option<usize>,
 ) -> Result<(), Refusal>
     ensures { (given held : List ℕ) (js : List Job·) → Measured given held js accounts shorts jobs end → outcome_of (λ _. tt) result ≡ jobs_verdict given held js amounts }
 {
@@ -167,24 +153,29 @@ fn judge(
     if MOST_JOBS < jobs {
         return Err(Refusal::TooManyJobs);
     }
-    if shorts < end {
-        return Err(Refusal::StretchMisplaced);
+    match end {
+        Some(end) if end <= shorts => Ok(()),
+        _ => Err(Refusal::StretchMisplaced),
     }
-    Ok(())
 }
 
 // Allocates every job, or refuses before any: then records and amounts are kept.
 #[tactic(auto, using(crate::proofs::JobsCallLaws::in_place, crate::proofs::JobsCallLaws::answers))]
 pub fn allocate_jobs(
-    accounts: &[u32],
-    shorts: &[u32],
+    list: &AccountList,
     jobs: &mut [Job],
     amounts: &mut [u32],
 ) -> Result<(), Refusal>
-    ensures { JobsCall accounts.now shorts.now (status_of result) (lent jobs.old jobs.new) (lent amounts.old amounts.new) }
+    ensures { JobsCall list.now.accounts.now list.now.shorts.now (status_of result) (lent jobs.old jobs.new) (lent amounts.old amounts.new) }
 {
     let end = last_end(jobs);
-    judge(accounts.len(), shorts.len(), amounts.len(), jobs.len(), end)?;
-    run_jobs(accounts, shorts, jobs, amounts);
+    judge(
+        list.accounts.len(),
+        list.shorts.len(),
+        amounts.len(),
+        jobs.len(),
+        end,
+    )?;
+    run_jobs(list, jobs, amounts);
     Ok(())
 }

@@ -5,7 +5,7 @@ ghost use Rattle.series.specs.Places.{total as total_of};
 
 use series::Contracts;
 
-// The shorts of a call that meets no refusal, with T and S.
+// The shorts of a call that meets no refusal, with T and S. That the amounts are as many stands beside it: they are lent apart, and written while the list is read.
 #[derive(Clone, Copy)]
 pub struct JudgedList<'a> {
     pub shorts: &'a [u32],

@@ -1,18 +1,19 @@
-// Judging a call, in the order of document 01's table, with document 02's 19, 23 and 24: T, or the first refusal that applies. The list is judged by the crate list_judging, whose `judge_list` is handed on.
-#![tactic(auto, using(std::proofs::lemmas::Bool::Decides::nat_tests), unfolding(series::specs::Refusals::first, series::specs::Refusals::outside, series::specs::Refusals::exercised_rows, series::specs::Refusals::increment_rows, series::specs::Refusals::draw_rows, series::specs::Refusals::undrawn, series::specs::Lottery::unstarted, series::specs::Refusals::then_draw_rows, series::specs::Refusals::terms_rows))]
+// Judging a call, in the order of document 01's table, with document 02's 19, 23 and 24: the judged list, or the first refusal that applies. The list is judged by the crate list_judging, whose `judge_list` is handed on.
+#![tactic(auto, using(std::proofs::lemmas::Bool::Decides::nat_tests), unfolding(series::specs::Refusals::first, series::specs::Refusals::outside, series::specs::Refusals::increment_rows, series::specs::Refusals::draw_rows, series::specs::Refusals::undrawn, series::specs::Lottery::unstarted, series::specs::Refusals::then_draw_rows))]
 
-ghost use Rattle.std.specs.Prelude.{◌≡◌, not};
-ghost use Rattle.series.specs.Places.{OnWheel};
+ghost use Rattle.std.specs.Prelude.{◌≡◌, ◌≤◌, not, length, IfOk};
+ghost use Rattle.series.specs.Places.{total as total_of, OnWheel};
+ghost use Rattle.series.specs.Series.{MOST_CONTRACTS, MOST_POSITIONS};
 ghost use Rattle.series.specs.Wheel.{MOST_INCREMENT as MOST_INCREMENT·};
 ghost use Rattle.series.specs.Refusals.{first, outside, too_many_blocks, increment_rows, undrawn, draw_rows, then_draw_rows, terms_rows, verdict};
-ghost use Rattle.series.specs.Answers.{outcome_of, series_of};
-ghost use Rattle.list_judging.specs.Judged.{judged_of};
+ghost use Rattle.series.specs.Answers.{outcome_of, series_of, series_on, coded_by_account};
+ghost use Rattle.judging.specs.Judged.{ListOf};
 
 mod judged_list;
 
 pub use judged_list::JudgedList;
 pub use list_judging::judge_list;
-use series::{Contracts, Method, Refusal, Series, Terms};
+use series::{AccountList, Contracts, Method, Refusal, Series, Terms};
 
 // The increment is at most so many contracts.
 const MOST_INCREMENT: u32 = 1000;
@@ -39,90 +40,122 @@ fn has_too_many_blocks(increment: Contracts, total: Contracts, exercised: Contra
     (exercised.0 < total.0) & (MOST_BLOCKS * increment.0 < exercised.0)
 }
 
-// The increment, under W only.
-fn judge_increment(terms: Terms, total: Contracts) -> Result<(), Refusal>
-    ensures { outcome_of (λ _. total.0) result ≡ first (increment_rows terms total.0) total.0 }
-{
-    let Method::Wheel = terms.method else {
-        return Ok(());
-    };
-    if !is_within(terms.increment.0, MOST_INCREMENT) {
-        return Err(Refusal::IncrementOutOfRange);
-    }
-    if has_too_many_blocks(terms.increment, total, terms.exercised) {
-        return Err(Refusal::TooManyBlocks);
-    }
-    Ok(())
+// A call on a list that is judged: its terms, the shorts of the list and T.
+#[derive(Clone, Copy)]
+struct Call<'a> {
+    terms: Terms,
+    shorts: &'a [u32],
+    total: Contracts,
+    ghost few: { length shorts.now ≤ MOST_POSITIONS },
+    ghost sum: { total.0 ≡ total_of shorts.now },
+    ghost small: { total_of shorts.now ≤ MOST_CONTRACTS },
 }
 
-// The draw: 1 to T under W, 1 to 10,000 under L.
-fn judge_draw(terms: Terms, total: Contracts) -> Result<Contracts, Refusal>
-    ensures { judged_of result ≡ first (draw_rows terms total.0) total.0 }
-{
-    let most = match terms.method {
-        Method::Wheel => total.0,
-        Method::Lottery => MOST_LOTTERY_DRAW,
-        Method::ProRata | Method::RemainderDraw => return Ok(total),
-    };
-    if !is_within(terms.draw, most) {
-        return Err(Refusal::DrawOutOfRange);
+impl<'a> Call<'a> {
+    // The increment, under W only.
+    fn judge_increment(&self) -> Result<(), Refusal>
+        ensures { outcome_of (λ _. self.now.total.0) result ≡ first (increment_rows self.now.terms self.now.total.0) self.now.total.0 }
+    {
+        let Method::Wheel = self.terms.method else {
+            return Ok(());
+        };
+        let increment = self.terms.increment;
+        if !is_within(increment.0, MOST_INCREMENT) {
+            return Err(Refusal::IncrementOutOfRange);
+        }
+        if has_too_many_blocks(increment, self.total, self.terms.exercised) {
+            return Err(Refusal::TooManyBlocks);
+        }
+        Ok(())
     }
-    Ok(total)
-}
 
-// Whether a call is decided before the draw: S equals T, under W, L and R; then, under L and R only, one position.
-fn is_undrawn(terms: Terms, total: Contracts, positions: usize) -> bool
-    ensures { result ≡ undrawn terms total.0 positions }
-{
-    let whole = terms.exercised.0 == total.0;
-    match terms.method {
-        Method::Wheel => whole,
-        Method::ProRata => false,
-        Method::Lottery | Method::RemainderDraw => whole | (positions == 1),
+    // The draw: 1 to T under W, 1 to 10,000 under L.
+    fn judge_draw(&self) -> Result<(), Refusal>
+        ensures { outcome_of (λ _. self.now.total.0) result ≡ first (draw_rows self.now.terms self.now.total.0) self.now.total.0 }
+    {
+        let most = match self.terms.method {
+            Method::Wheel => self.total.0,
+            Method::Lottery => MOST_LOTTERY_DRAW,
+            Method::ProRata | Method::RemainderDraw => return Ok(()),
+        };
+        if !is_within(self.terms.draw, most) {
+            return Err(Refusal::DrawOutOfRange);
+        }
+        Ok(())
     }
-}
 
-// The draw, where nothing is decided before it.
-fn judge_then_draw(terms: Terms, total: Contracts, positions: usize) -> Result<Contracts, Refusal>
-    ensures { judged_of result ≡ first (then_draw_rows terms total.0 positions) total.0 }
-{
-    if is_undrawn(terms, total, positions) {
-        return Ok(total);
+    // Whether the call is decided before the draw: S equals T, under W, L and R; then, under L and R only, one position.
+    fn is_undrawn(&self) -> bool
+        ensures { result ≡ undrawn self.now.terms self.now.total.0 (length self.now.shorts.now) }
+    {
+        let whole = self.terms.exercised.0 == self.total.0;
+        match self.terms.method {
+            Method::Wheel => whole,
+            Method::ProRata => false,
+            Method::Lottery | Method::RemainderDraw => whole | (self.shorts.len() == 1),
+        }
     }
-    judge_draw(terms, total)
-}
 
-// The terms, for a list of T contracts: what is exercised, the increment, the draw.
-fn judge_terms(terms: Terms, total: Contracts, positions: usize) -> Result<Contracts, Refusal>
-    ensures { judged_of result ≡ first (terms_rows terms total.0 positions) total.0 }
-{
-    if terms.exercised.0 == 0 {
-        return Err(Refusal::NothingExercised);
+    // The draw, where nothing is decided before it.
+    fn judge_then_draw(&self) -> Result<(), Refusal>
+        ensures { outcome_of (λ _. self.now.total.0) result ≡ first (then_draw_rows self.now.terms self.now.total.0 (length self.now.shorts.now)) self.now.total.0 }
+    {
+        if self.is_undrawn() {
+            return Ok(());
+        }
+        self.judge_draw()
     }
-    if total.0 < terms.exercised.0 {
-        return Err(Refusal::ExercisedAboveTotal);
+
+    // The terms: what is exercised, the increment, the draw.
+    #[tactic(auto, using(std::proofs::lemmas::Bool::Decides::nat_tests), unfolding(series::specs::Refusals::first, series::specs::Refusals::exercised_rows, series::specs::Refusals::terms_rows))]
+    fn judge_terms(&self) -> Result<JudgedList<'a>, Refusal>
+        ensures judged { outcome_of (λ j. j.total.0) result ≡ first (terms_rows self.now.terms self.now.total.0 (length self.now.shorts.now)) self.now.total.0 }
+        ensures list { IfOk result (λ j. (j.shorts.now ≡ self.now.shorts.now) × (j.exercised.0 ≡ self.now.terms.exercised.0)) }
+    {
+        if self.terms.exercised.0 == 0 {
+            return Err(Refusal::NothingExercised);
+        }
+        if self.total.0 < self.terms.exercised.0 {
+            return Err(Refusal::ExercisedAboveTotal);
+        }
+        self.judge_increment()?;
+        self.judge_then_draw()?;
+        Ok(JudgedList {
+            shorts: self.shorts,
+            total: self.total,
+            exercised: self.terms.exercised,
+        })
     }
-    judge_increment(terms, total)?;
-    judge_then_draw(terms, total, positions)
 }
 
 // Judges a whole call; room is the length of its output.
-pub fn judge(series: &Series, room: usize) -> Result<Contracts, Refusal>
-    ensures { judged_of result ≡ verdict (series_of series.now) room }
+pub fn judge<'a>(series: &Series<'a>, room: usize) -> Result<JudgedList<'a>, Refusal>
+    ensures judged { outcome_of (λ j. j.total.0) result ≡ verdict (series_of series.now) room }
+    ensures list { IfOk result (ListOf series.now.positions.shorts.now series.now.terms.exercised.0 room) }
 {
     let total = list_judging::judge(series.terms.method, &series.positions, room)?;
-    judge_terms(series.terms, total, series.positions.shorts.len())
+    let call = Call {
+        terms: series.terms,
+        shorts: series.positions.shorts,
+        total,
+    };
+    call.judge_terms()
 }
 
 // Judges a whole call of a series whose codes are its accounts. Under P, L and R that is the verdict for any codes.
-pub fn judge_uncoded(
+pub fn judge_uncoded<'a>(
     terms: Terms,
-    accounts: &[u32],
-    shorts: &[u32],
+    list: &AccountList<'a>,
     room: usize,
-) -> Result<Contracts, Refusal>
-    ensures { judged_of result ≡ verdict (record { terms = terms; codes = accounts.now; accounts = accounts.now; shorts = shorts.now }) room }
+) -> Result<JudgedList<'a>, Refusal>
+    ensures judged { outcome_of (λ j. j.total.0) result ≡ verdict (series_on terms (coded_by_account list.now)) room }
+    ensures list { IfOk result (ListOf list.now.shorts.now terms.exercised.0 room) }
 {
-    let total = list_judging::judge_by_account(accounts, shorts, room)?;
-    judge_terms(terms, total, shorts.len())
+    let total = list_judging::judge_by_account(list, room)?;
+    let call = Call {
+        terms,
+        shorts: list.shorts,
+        total,
+    };
+    call.judge_terms()
 }

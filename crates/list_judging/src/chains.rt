@@ -5,7 +5,7 @@ ghost use Rattle.series.specs.Refusals.{stands_in};
 ghost use Rattle.rising_lists.specs.Earlier.{earlier};
 ghost use Rattle.list_judging.specs.Chains.{bucket, Linked};
 
-// The last position of each bucket, and for each position the last one before it in its bucket.
+// The last position of each bucket, and for each position the last one before it in its bucket. How many positions are linked (`Linked`) is the index of the loop that links them; a field would count them again. Arrays, as the project has no heap.
 #[derive(Drop)]
 pub struct Chains {
     head: [u16; 4096],
@@ -16,7 +16,7 @@ pub struct Chains {
 fn bucket_of(account: u32) -> usize
     ensures { (result ≡ bucket account) × (result < MOST_POSITIONS) }
 {
-    (account as u64 * 2_654_435_761 % 4_294_967_296 / 1_048_576) as usize
+    (u64::from(account) * 2_654_435_761 % 4_294_967_296 / 1_048_576) as usize
 }
 
 impl Chains {

@@ -7,14 +7,14 @@ ghost use Rattle.std.specs.Prelude.{◌<◌, ◌≡◌, length, get_or};
 ghost use Rattle.series.specs.Refusals.{account_refused, list_verdict, positions_verdict, list_verdict_for};
 ghost use Rattle.series.specs.Series.{ordered_by};
 ghost use Rattle.series.specs.declared.Method.{Method as Method·};
-ghost use Rattle.rising_lists.specs.Judged.{judged_of, EvenList};
+ghost use Rattle.rising_lists.specs.Judged.{judged_of};
 ghost use Rattle.rising_lists.specs.Earlier.{earlier};
 ghost use Rattle.list_judging.specs.Chains.{Linked};
 
 use crate::chains::Chains;
 pub use rising_lists::judge_by_account;
-use rising_lists::{MOST_CONTRACTS, judge_rows, judge_shorts};
-use series::{Contracts, Method, Positions, Refusal};
+use rising_lists::{EvenPositions, judge_lengths, judge_rising, judge_shorts};
+use series::{Contracts, MOST_CONTRACTS, Method, Positions, Refusal};
 
 // Whether the account of a position is 0 or stands earlier in the list.
 #[tactic(auto, using(std::proofs::lemmas::Bool::Decides::nat_tests), unfolding(series::specs::Refusals::account_refused))]
@@ -26,10 +26,10 @@ fn is_account_refused(chains: &Chains, accounts: &[u32], position: usize) -> boo
 }
 
 // The list under W, each position in turn, its accounts in any order: they are looked up in chains.
-fn judge_chained(positions: &Positions) -> Result<Contracts, Refusal>
-    requires { EvenList positions.now.codes.now positions.now.accounts.now positions.now.shorts.now }
-    ensures { judged_of result ≡ positions_verdict Method·.Wheel positions.now.codes.now positions.now.accounts.now positions.now.shorts.now }
+fn judge_chained(list: &EvenPositions) -> Result<Contracts, Refusal>
+    ensures { judged_of result ≡ positions_verdict Method·.Wheel list.now.positions.codes.now list.now.positions.accounts.now list.now.positions.shorts.now }
 {
+    let positions = list.positions;
     let mut chains = Chains::new();
     let mut before = 0;
     let mut left = MOST_CONTRACTS;
@@ -53,9 +53,10 @@ fn judge_chained(positions: &Positions) -> Result<Contracts, Refusal>
 fn judge_by_code(positions: &Positions, room: usize) -> Result<Contracts, Refusal>
     ensures { judged_of result ≡ list_verdict_for Method·.Wheel positions.now.codes.now positions.now.accounts.now positions.now.shorts.now room }
 {
-    match judge_rows(positions, room)? {
+    let list = judge_lengths(positions, room)?;
+    match judge_rising(&list)? {
         Some(total) => Ok(total),
-        None => judge_chained(positions),
+        None => judge_chained(&list),
     }
 }
 
@@ -65,7 +66,7 @@ pub fn judge(method: Method, positions: &Positions, room: usize) -> Result<Contr
 {
     match method {
         Method::Wheel => judge_by_code(positions, room),
-        _ => judge_by_account(positions.accounts, positions.shorts, room),
+        _ => judge_by_account(&positions.account_list(), room),
     }
 }
 

@@ -4,44 +4,31 @@
 ghost use Rattle.std.specs.Prelude.{◌≡◌, ◌≤◌, length};
 ghost use Rattle.series.specs.Answers.{answer_of};
 ghost use Rattle.series.specs.Series.{MOST_POSITIONS};
-ghost use Rattle.forms.specs.Forms.{listing_of, list_verdict_in, ListingCall};
+ghost use Rattle.forms.specs.Forms.{listing_of, read_as, list_verdict_in, ListingCall};
 ghost use Rattle.forms.specs.declared.Form.{Form as Form·};
 ghost use Rattle.rising_lists.specs.Judged.{judged_of};
 
 use forms::{Form, Listing, fill_shorts, in_form};
-use series::{Allocated, Contracts, Refusal};
+use series::{Allocated, Contracts, MOST_POSITIONS, Refusal};
 
-// A list has at most so many positions.
-const MOST_POSITIONS: usize = 4096;
-
-// A list of at most so many positions has a short room for its shorts.
+// A list of at most so many positions has a short room for its shorts. Rooms are arrays, as the project has no heap.
 const SHORT_LIST: usize = 128;
 
-// Judges a list of last numbers by its shorts, which are made in a room for N positions.
-fn judge_in_room<const N: usize>(listing: &Listing) -> Result<Contracts, Refusal>
-    requires form { listing.now.form ≡ Form·.LastNumbers }
-    requires fits { length listing.now.numbers.now ≤ N }
-    requires small { N ≤ MOST_POSITIONS }
-    ensures { judged_of result ≡ list_verdict_in listing.now.form listing.now.terms.method listing.now.codes.now listing.now.accounts.now listing.now.numbers.now }
+// Judges a list of last numbers by its shorts. One that is too long is refused for its length alone.
+fn judge_lasts(listing: &Listing) -> Result<Contracts, Refusal>
+    ensures { judged_of result ≡ list_verdict_in Form·.LastNumbers listing.now.terms.method listing.now.codes.now listing.now.accounts.now listing.now.numbers.now }
 {
-    let mut room = [0u32; N];
-    let shorts = &mut room[..listing.numbers.len()];
+    let n = listing.numbers.len();
+    if MOST_POSITIONS < n {
+        let series = listing.series(listing.numbers);
+        return list_judging::judge_list(listing.terms.method, &series.positions);
+    }
+    let mut room = [0u32; MOST_POSITIONS];
+    let shorts = &mut room[..n];
     fill_shorts(listing.numbers, shorts);
     let series = listing.series(shorts);
     let judged = list_judging::judge_list(listing.terms.method, &series.positions);
     in_form(Form::LastNumbers, judged)
-}
-
-// Judges a list of last numbers. One that is too long is refused for its length alone.
-fn judge_lasts(listing: &Listing) -> Result<Contracts, Refusal>
-    requires { listing.now.form ≡ Form·.LastNumbers }
-    ensures { judged_of result ≡ list_verdict_in listing.now.form listing.now.terms.method listing.now.codes.now listing.now.accounts.now listing.now.numbers.now }
-{
-    if MOST_POSITIONS < listing.numbers.len() {
-        let series = listing.series(listing.numbers);
-        return list_judging::judge_list(listing.terms.method, &series.positions);
-    }
-    judge_in_room::<MOST_POSITIONS>(listing)
 }
 
 // Judges a list alone, with no output, S or draw: of the terms the method counts.
@@ -57,15 +44,14 @@ pub fn judge_list(listing: &Listing) -> Result<Contracts, Refusal>
     }
 }
 
-// The allocating call on a list of last numbers, whose shorts are made in a room for N positions.
+// The allocating call on a list of last numbers, whose shorts are made in a room for N positions. `judge_lasts` makes them so too: one function, handed the call, would also promise that it may be called and what it is called on.
 fn allocate_in_room<const N: usize>(
     listing: &Listing,
     amounts: &mut [u32],
 ) -> Result<Allocated, Refusal>
-    requires form { listing.now.form ≡ Form·.LastNumbers }
     requires fits { length listing.now.numbers.now ≤ N }
     requires small { N ≤ MOST_POSITIONS }
-    ensures { ListingCall (listing_of listing.now) (answer_of result) amounts.old amounts.new }
+    ensures { ListingCall (read_as Form·.LastNumbers (listing_of listing.now)) (answer_of result) amounts.old amounts.new }
 {
     let mut room = [0u32; N];
     let shorts = &mut room[..listing.numbers.len()];
@@ -76,8 +62,7 @@ fn allocate_in_room<const N: usize>(
 
 // The allocating call on a list of last numbers. One that is too long is refused for its length alone.
 fn allocate_lasts(listing: &Listing, amounts: &mut [u32]) -> Result<Allocated, Refusal>
-    requires { listing.now.form ≡ Form·.LastNumbers }
-    ensures { ListingCall (listing_of listing.now) (answer_of result) amounts.old amounts.new }
+    ensures { ListingCall (read_as Form·.LastNumbers (listing_of listing.now)) (answer_of result) amounts.old amounts.new }
 {
     let n = listing.numbers.len();
     if MOST_POSITIONS < n {

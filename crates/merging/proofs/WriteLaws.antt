@@ -17,7 +17,7 @@ use Rattle.series.proofs.SumLaws.{total_term}
 use Rattle.merging.specs.Merging.{Position, PositionList, positions, accounts_of, shorts_of, added, ListsMerged, merged_of}
 use Rattle.merging.specs.Walks.{Fitting, FittingFrom, PutFrom}
 use Rattle.merging.proofs.MergeLaws.{merged-length}
-use Rattle.merging.proofs.WalkLaws.{none, Walked, walked_start, account-at, accounts-long, shorts-at, Step, step_first, step_second, step_both, more, walked_at, walked_next, walked_end, walked_count, Written, written-length, written_next, written_all, paired-accounts, paired-shorts, map-drop}
+use Rattle.merging.proofs.WalkLaws.{none, Walked, account-at, accounts-long, shorts-at, Step, step_first, step_second, step_both, more, walked_at, walked_next, walked_end, walked_count, Written, written-length, written_next, written_all, paired-accounts, paired-shorts, map-drop}
 
 -- the outputs keep their lengths
 pub put_length : (l : PositionList) (begin at : ℕ) (accounts shorts : Lent (List ℕ)) → PutFrom l begin at accounts shorts → (length accounts.new ≡ length accounts.old) × (length shorts.new ≡ length shorts.old)
@@ -36,9 +36,6 @@ put_part old new us begin at k copied left room =
     let past : k ≡ length vs = omega (arith, length-drop begin us) in
     let whole : new ≡ vs = copied ∙ take_all (length us - begin) vs (omega arith) in
     rw (whole, past, drop-drop) (sym (append_assoc (take at old) vs (drop (at + length vs) old)) ∙ sym (sets-eq vs old at (omega arith)))
-
-pub writing_start : (one two : PositionList) (accounts₀ shorts₀ : List ℕ) → Writing one two accounts₀ shorts₀ accounts₀ shorts₀ 0 0 0
-writing_start one two accounts₀ shorts₀ = record { walked = walked_start (positions one) (positions two); accounts_written = refl; shorts_written = refl }
 
 module _ {one two : PositionList} {accounts₀ shorts₀ : List ℕ} (fit : Fitting one two accounts₀ shorts₀) {accounts shorts : List ℕ} {i j n : ℕ} (w : Writing one two accounts₀ shorts₀ accounts shorts i j n) where
   ones : accounts_of (positions one) ≡ one.accounts

@@ -8,7 +8,7 @@ use Rattle.series.specs.Refusals.{Row, ◌⟶◌∣◌, first, list_verdict}
 use Rattle.series.specs.Answers.{outcome_of}
 use Rattle.series.specs.declared.Method.{Method}
 use Rattle.series.specs.declared.Refusal.{Refusal}
-use Rattle.merging.specs.declared.AccountList.{AccountList}
+use Rattle.series.specs.declared.AccountList.{AccountList}
 use Rattle.merging.specs.declared.Merged.{Merged}
 
 -- a position: an account and its short contracts

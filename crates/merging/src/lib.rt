@@ -11,20 +11,7 @@ ghost use Rattle.rising_lists.specs.Judged.{judged_of};
 ghost use Rattle.merging.specs.Merging.{Position, account_list_of, accounts_of, shorts_of, merged, merged_of, judged_alone, merged_rows, handed, judged_merged, merging_of, ListsMerged, Merges, MergingCall};
 ghost use Rattle.merging.specs.Walks.{judged_both, BothBounded, Fitting, FittingFrom, PutFrom};
 
-use series::{Contracts, Method, Positions, Refusal};
-
-// A merged list has at most so many positions.
-const MOST_POSITIONS: usize = 4096;
-
-// T is at most so many contracts.
-const MOST_CONTRACTS: u32 = 10_000_000;
-
-// A list that rises by account: accounts, and the shorts beside them.
-#[derive(Clone, Copy)]
-pub struct AccountList<'a> {
-    pub accounts: &'a [u32],
-    pub shorts: &'a [u32],
-}
+use series::{AccountList, Contracts, MOST_CONTRACTS, MOST_POSITIONS, Method, Refusal};
 
 // What merging hands back: the number of positions of the merged list, and its T.
 #[derive(Clone, Copy, Debug, PartialEq, Eq)]
@@ -33,7 +20,7 @@ pub struct Merged {
     pub total: Contracts,
 }
 
-// How many positions the merged list has, whatever the shorts.
+// How many positions the merged list has, whatever the shorts. It walks as `write_merged` does, by the same law of a step; one function for both would have each promise twice, and would be lent shorts to count accounts.
 fn count_merged(first: &[u32], second: &[u32]) -> usize
     requires { (length first.now ≤ MOST_POSITIONS·) × (length second.now ≤ MOST_POSITIONS·) }
     ensures { (ps qs : List Position) → accounts_of ps ≡ first.now → accounts_of qs ≡ second.now → result ≡ length (merged ps qs) }
@@ -58,7 +45,7 @@ fn count_merged(first: &[u32], second: &[u32]) -> usize
     n + (first.len() - i) + (second.len() - j)
 }
 
-// Puts what is left of a list from one index on into both outputs from another on.
+// Puts what is left of a list from one index on into both outputs from another on. The outputs are two lists here as in the call for C: in a struct of loans each promise would speak of what is lent behind it, and not of two lists.
 fn put_rest(list: &AccountList, begin: usize, at: usize, accounts: &mut [u32], shorts: &mut [u32])
     requires { FittingFrom (account_list_of list.now) begin at accounts.old shorts.old }
     ensures { PutFrom (account_list_of list.now) begin at (lent accounts.old accounts.new) (lent shorts.old shorts.new) }
@@ -107,12 +94,7 @@ fn write_merged(first: &AccountList, second: &AccountList, accounts: &mut [u32],
 fn judge_alone(list: &AccountList) -> Result<Contracts, Refusal>
     ensures { judged_of result ≡ judged_alone (account_list_of list.now) }
 {
-    let positions = Positions {
-        codes: list.accounts,
-        accounts: list.accounts,
-        shorts: list.shorts,
-    };
-    list_judging::judge_list(Method::ProRata, &positions)
+    list_judging::judge_list(Method::ProRata, &list.positions())
 }
 
 // Judges both lists: the sum of their totals, or the first refusal.

@@ -1,9 +1,9 @@
 -- What the two rounds make of the call.
-use Prim.Native.Nat.{ℕ, ◌≤◌}
+use Prim.Native.Nat.{ℕ}
 use mathlib.Core.Path.{◌≡◌, refl, ap₂, ◌∙◌}
 use mathlib.Core.Option.{some}
 use mathlib.Core.List.{List, ◌++◌}
-use lib.ListN.{length, take, drop}
+use lib.ListN.{length, drop}
 use Rattle.series.specs.Results.{Result, refused, value}
 use Rattle.series.specs.Series.{Series, DEFAULT_INCREMENT, Given, terms_of}
 use Rattle.series.specs.Refusals.{verdict}
@@ -13,21 +13,32 @@ use Rattle.series.specs.Call.{assigned, further}
 use Rattle.series.specs.Fair.{AllocatingCall}
 use Rattle.series.specs.declared.Method.{Method}
 use Rattle.series.specs.declared.Terms.{Terms}
-use Rattle.series.specs.Places.{total}
-use Rattle.series.proofs.AcceptedLaws.{Facts}
 use Rattle.series.proofs.CallLaws.{not_wheel, codes_unseen}
 use Rattle.series.proofs.IncrementLaws.{call_by_terms}
 use Rattle.judging.specs.Assigning.{Assigns}
-use Rattle.judging.proofs.CallLaws.{fits, room, call_refused, call_list, call_allocated}
+use Rattle.judging.specs.Judged.{ListOf}
+use Rattle.judging.specs.declared.judged_list.JudgedList.{JudgedList}
+use Rattle.judging.proofs.CallLaws.{call_refused, call_allocated}
 
-pro_rata_gives : (t : Terms) (hs : List ℕ) (T : ℕ) → T ≡ total hs → t.method ≡ Method.ProRata → (r : ℕ) (vs : List ℕ) → r ≡ remainder hs t.exercised.0 → vs ≡ pro_rata hs t.exercised.0 t.draw
-    → Assigns t hs (value (record { method = Method.ProRata; total = T; further = some r })) vs
-unfolding further assigned
-pro_rata_gives t hs T sum e r vs er ev =
-    record {
-      answered = rw e (ap₂ (λ x f. value (record { method = Method.ProRata; total = x; further = some f })) sum er);
-      written = rw e ev;
-    }
+-- what the two rounds make of a judged list
+module _ (l : JudgedList) where
+  abbrev hs : List ℕ
+  hs = l.shorts.now
+
+  abbrev S : ℕ
+  S = l.exercised.0
+
+  -- the answer, with the contracts of round two
+  abbrev pub answered : ℕ → Result Allocation
+  answered r = value (record { method = Method.ProRata; total = l.total.0; further = some r })
+
+  pro_rata_gives : (t : Terms) → S ≡ t.exercised.0 → t.method ≡ Method.ProRata → (r : ℕ) (vs : List ℕ) → r ≡ remainder hs S → vs ≡ pro_rata hs S t.draw → Assigns t hs (answered r) vs
+  unfolding further assigned
+  pro_rata_gives t es e r vs er ev =
+      record {
+        answered = rw (e, ← es) (ap₂ (λ x f. value (record { method = Method.ProRata; total = x; further = some f })) l.sum er);
+        written = rw (e, ← es) ev;
+      }
 
 -- a call under P, with these codes and the default increment, of which an allocation is told neither
 module _ (S draw : ℕ) (accounts shorts old : List ℕ) where
@@ -48,18 +59,8 @@ module _ (S draw : ℕ) (accounts shorts old : List ℕ) where
   pub allocate_refused : (n : ℕ) → Judged (refused n) → Allocates (refused n) old
   allocate_refused n v t codes given = call_by_terms t _ _ _ _ codes accounts shorts (not_wheel Method.ProRata refl) given (call_refused (called codes) old n (by_codes (refused n) v codes))
 
-  module _ (T : ℕ) (v : Judged (value T)) where
-    pub fitting : length shorts ≤ length old
-    fitting = fits (called accounts) old T v
-
-    pub room_for : length (take (length shorts) old) ≡ length shorts
-    room_for = room (called accounts) old T v
-
-    pub judged : Facts (called accounts) × (T ≡ total shorts)
-    judged = call_list (called accounts) old T v
-
-    pub allocate_assigned : (r : ℕ) (vs : List ℕ) → r ≡ remainder shorts S → vs ≡ pro_rata shorts S draw
-        → Allocates (value (record { method = Method.ProRata; total = T; further = some r })) (vs ++ drop (length shorts) old)
-    allocate_assigned r vs er ev t codes given =
-        call_by_terms t _ _ _ _ codes accounts shorts (not_wheel Method.ProRata refl) given
-        (call_allocated (called codes) old T (by_codes (value T) v codes) _ vs (pro_rata_gives (called codes).terms shorts T judged.1 refl r vs er ev))
+  pub allocate_assigned : (l : JudgedList) → Judged (value l.total.0) → ListOf shorts S (length old) l → (r : ℕ) (vs : List ℕ) → r ≡ remainder l.shorts.now l.exercised.0 → vs ≡ pro_rata l.shorts.now l.exercised.0 draw
+      → Allocates (answered l r) (vs ++ drop (length l.shorts.now) old)
+  allocate_assigned l v of r vs er ev t codes given =
+      call_by_terms t _ _ _ _ codes accounts shorts (not_wheel Method.ProRata refl) given
+      (call_allocated (called codes) old l (by_codes (value l.total.0) v codes) of _ vs (pro_rata_gives l (called codes).terms of.exercised_is refl r vs er ev))

@@ -4,17 +4,18 @@ use mathlib.Core.Path.{◌≡◌, refl, sym, ap, ap₂, ◌∙◌}
 use mathlib.Core.Option.{Option, none, some, some-injective}
 use mathlib.Core.List.{List}
 use native.Mathlib.Omega.{arith}
-use native.Mathlib.Nat.{mod-eq_of_lt, mod-lt, mod-mod}
+use native.Mathlib.Nat.{mod-eq_of_lt, mod-mod}
 use native.Mathlib.Numerals.{add-one}
 use native.Mathlib.Decide.{dec_lt, ℕ_discrete}
 use lib.Dec.{eqb, ltb}
 use lib.ListN.{length}
+use Rattle.series.specs.Series.{MOST_POSITIONS}
 use Rattle.series.specs.Sums.{bit}
 use Rattle.series.specs.ProRata.{turn, larger, equal, round_two}
 use Rattle.series.specs.CutOff.{at_least, cut_off, RunsOutAt, at_cut_off, by_cut_off, round_two_at, round_two_by_cut_off}
 use Rattle.series.proofs.SumLaws.{bit_le, listed_cong}
 use Rattle.series.proofs.ProRataLaws.{equal_le, turn-first, turn-after, above, tied, below, at_least-parts, larger-next, no_cut_off, cut_off_is, cut_off_only, none_left, round_two_by_cut_off_lem}
-use Rattle.pro_rata.specs.Rounds.{at, Decimals, RoomForOne, Servable, added, counted, cut_off_of}
+use Rattle.pro_rata.specs.Rounds.{at, Decimals, added, counted, cut_off_of}
 use Rattle.std.specs.Prelude.{Some, None}
 
 -- the turn of a tied position, with no division
@@ -99,20 +100,11 @@ module _ {parts : List ℕ} {left : ℕ} (ok : Decimals parts left) where
     pub tied-some : 0 < g
     tied-some = omega (arith, runs_out.fewer, runs_out.enough, cut.tied_are, at_least-parts d c n)
 
-    serves : left - l ≤ g
-    serves = omega (arith, runs_out.enough, cut.larger_are, cut.tied_are, at_least-parts d c n)
+    pub tied-few : g ≤ MOST_POSITIONS
+    tied-few = omega (arith, cut.tied_are, equal_le d c n, ok.few)
 
-    -- the service of such a round is asked for
-    pub servable : (amounts : List ℕ) → RoomForOne parts amounts → (draw : ℕ) → Servable parts amounts (record { cut = c; tied = g; first = draw % g; served = left - l })
-    servable amounts room draw = record {
-      room = room;
-      serving = record {
-        few = omega (arith, cut.tied_are, equal_le d c n, ok.few);
-        begins = mod-lt draw tied-some;
-        serves = serves;
-      };
-      tied = cut.tied_are;
-    }
+    pub serves : left - l ≤ g
+    serves = omega (arith, runs_out.enough, cut.larger_are, cut.tied_are, at_least-parts d c n)
 
     by_rank : (draw i : ℕ) → i < n → by_cut_off d c (draw % equal d c n) (equal d c n) (left - larger d c n) i ≡ round_two d n draw left i
     unfolding at_cut_off round_two_at round_two_by_cut_off

@@ -5,7 +5,7 @@ use Rattle.series.specs.Series.{MOST_CONTRACTS, MOST_POSITIONS}
 use Rattle.series.specs.Sums.{sum_below, listed}
 use Rattle.series.specs.ProRata.{round_one, decimals, larger, equal}
 use Rattle.pro_rata.specs.declared.rounds.Percentage.{Percentage}
-use Rattle.pro_rata.specs.declared.rounds.RoundTwo.{RoundTwo}
+use Rattle.pro_rata.specs.declared.round_two.RoundTwo.{RoundTwo}
 use Rattle.pro_rata.specs.declared.rounds.Cutoff.{Cutoff}
 
 -- S of T contracts, T at most 10,000,000
@@ -54,12 +54,6 @@ abbrev pub cut_off_of : Option· Cutoff → Option Counted
 cut_off_of (Some c) = some (record { cut = c.cut; above = c.larger; tied = c.tied })
 cut_off_of None = none
 
--- the round begins with one of the tied positions and serves no more than them
-pub record Serving (r : RoundTwo) : Type 0 where
-  pub few : r.tied ≤ MOST_POSITIONS
-  pub begins : r.first < r.tied
-  pub serves : r.served ≤ r.tied
-
 -- the amounts of round one with the decimal parts beside them: there is room for one contract more
 pub record RoomForOne (parts amounts : List ℕ) : Type 0 where
   pub beside : length amounts ≡ length parts
@@ -68,7 +62,6 @@ pub record RoomForOne (parts amounts : List ℕ) : Type 0 where
 -- what the service of a round asks: its tied positions are those at the cut-off
 pub record Servable (parts amounts : List ℕ) (r : RoundTwo) : Type 0 where
   pub room : RoomForOne parts amounts
-  pub serving : Serving r
   pub tied : r.tied ≡ equal (at parts) r.cut (length parts)
 
 -- a list with f 0, f 1, .. added to its elements

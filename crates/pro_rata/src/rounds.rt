@@ -1,22 +1,23 @@
 // The two rounds: round one assigns whole parts, round two one contract to a position by decimal parts.
-ghost use Rattle.std.specs.Prelude.{◌≡◌, ◌+◌, ◌*◌, ◌^◌, ◌≤◌, ◌<◌, ltb, length};
+ghost use Rattle.std.specs.Prelude.{◌≡◌, ◌+◌, ◌*◌, ◌^◌, ◌≤◌, ◌<◌, length};
 ghost use Rattle.series.specs.Series.{MOST_CONTRACTS, MOST_POSITIONS};
-ghost use Rattle.series.specs.ProRata.{percentage, whole_part, decimal_part, remainder, turn, round_two, pro_rata};
-ghost use Rattle.series.specs.CutOff.{at_least, cut_off, at_cut_off, by_cut_off};
-ghost use Rattle.pro_rata.specs.Rounds.{Exercised, units, HighLow, RoundOneDone, at, Decimals, counted, cut_off_of, Serving, RoomForOne, Servable, added};
+ghost use Rattle.series.specs.ProRata.{percentage, whole_part, decimal_part, remainder, round_two, pro_rata};
+ghost use Rattle.series.specs.CutOff.{at_least, cut_off, by_cut_off};
+ghost use Rattle.pro_rata.specs.Rounds.{Exercised, units, HighLow, RoundOneDone, at, Decimals, counted, cut_off_of, RoomForOne, Servable, added};
 
+use crate::round_two::RoundTwo;
 use judging::JudgedList;
-use series::Contracts;
+use series::{Contracts, MOST_POSITIONS};
 
 // The exercise percentage in units of the 17th decimal: high * 10^12 + low.
-#[derive(Clone, Copy)]
+#[derive(Clone, Copy, Debug, PartialEq, Eq)]
 pub struct Percentage {
     high: u64,
     low: u64,
 }
 
 // A position's assignment amount: its whole part, and its decimal part in units of the 5th decimal.
-#[derive(Clone, Copy)]
+#[derive(Clone, Copy, Debug, PartialEq, Eq)]
 pub struct Assignment {
     whole: u32,
     decimal: u32,
@@ -28,8 +29,8 @@ impl Percentage {
         requires { Exercised exercised.0 total.0 }
         ensures { (units result ≡ percentage exercised.0 total.0) × HighLow result }
     {
-        let s = exercised.0 as u64 * 100_000_000;
-        let t = total.0 as u64;
+        let s = u64::from(exercised.0) * 100_000_000;
+        let t = u64::from(total.0);
         let units = s / t * 1_000_000_000 + s % t * 1_000_000_000 / t;
         Percentage {
             high: units / 1_000_000_000_000,
@@ -42,7 +43,7 @@ impl Percentage {
         requires { (shorts.0 ≤ MOST_CONTRACTS) × HighLow self }
         ensures { (result.whole ≡ whole_part (units self) shorts.0) × (result.decimal ≡ decimal_part (units self) shorts.0) }
     {
-        let h = shorts.0 as u64;
+        let h = u64::from(shorts.0);
         let amount = h * self.high + h * self.low / 1_000_000_000_000;
         Assignment {
             whole: (amount / 100_000) as u32,
@@ -82,7 +83,7 @@ pub fn at_least(parts: &[u32], x: u32) -> u32
 }
 
 // The cut-off: the decimal part at which the remainder runs out, how many positions have a larger one, and how many this one.
-#[derive(Clone, Copy)]
+#[derive(Clone, Copy, Debug, PartialEq, Eq)]
 pub struct Cutoff {
     cut: u32,
     larger: u32,
@@ -120,46 +121,6 @@ pub fn cut_off(parts: &[u32], remainder: Contracts) -> Option<Cutoff>
         larger,
         tied: enough - larger,
     })
-}
-
-// Round two by the cut-off: `served` of the `tied` positions get a contract, beginning with number `first` + 1.
-#[derive(Clone, Copy)]
-pub struct RoundTwo {
-    cut: u32,
-    tied: u32,
-    first: u32,
-    served: u32,
-}
-
-impl RoundTwo {
-    // Whether number `number` + 1 of the tied positions is served.
-    pub fn in_turn(self, number: u32) -> bool
-        requires { Serving self × (number < self.tied) }
-        ensures { result ≡ ltb (turn self.first self.tied number) self.served }
-    {
-        if number < self.first {
-            self.tied - self.first + number < self.served
-        } else {
-            number - self.first < self.served
-        }
-    }
-
-    // What the position with this decimal part gets, where `number` tied ones come before it in the list.
-    pub fn contract(self, part: u32, number: u32) -> Contracts
-        requires { Serving self × (part ≡ self.cut → number < self.tied) }
-        ensures { result.0 ≡ at_cut_off self.cut self.first self.tied self.served part number }
-    {
-        if part == self.cut {
-            if self.in_turn(number) {
-                return Contracts(1);
-            }
-            return Contracts(0);
-        }
-        if self.cut < part {
-            return Contracts(1);
-        }
-        Contracts(0)
-    }
 }
 
 // One contract more to each position above the cut-off, and to the tied ones in turn.
@@ -211,7 +172,7 @@ pub fn both_rounds(
     remainder
 }
 
-// Both rounds, with room for N decimal parts.
+// Both rounds, with room for N decimal parts: an array, as the project has no heap.
 fn with_room<const N: usize>(list: &JudgedList, draw: u32, amounts: &mut [u32]) -> Contracts
     requires { (length amounts.old ≡ length list.now.shorts.now) × (length list.now.shorts.now ≤ N) × (N * 4 < 2 ^ 63) }
     ensures handed { result.0 ≡ remainder list.now.shorts.now list.now.exercised.0 }
@@ -230,5 +191,5 @@ pub fn assign(list: &JudgedList, draw: u32, amounts: &mut [u32]) -> Contracts
     if list.shorts.len() <= 128 {
         return with_room::<128>(list, draw, amounts);
     }
-    with_room::<4096>(list, draw, amounts)
+    with_room::<MOST_POSITIONS>(list, draw, amounts)
 }

@@ -1,7 +1,6 @@
 -- The rows of a list, as the code tries them.
 use Prim.Native.Nat.{ℕ, zero, suc, ◌+◌, ◌-◌, ◌≤◌, ◌<◌}
 use Rattle.std.proofs.lemmas.Bool.Decides.{nat_tests}
-use Rattle.std.specs.Prelude.{Some, None, Ok, Err}
 use mathlib.Core.Path.{◌≡◌, refl, sym, ap, ◌∙◌}
 use mathlib.Core.Bool.{Bool, true, false, ◌||◌, cond}
 use mathlib.Core.List.{List, [], ◌∷◌}
@@ -17,7 +16,8 @@ use Rattle.series.specs.Places.{total}
 use Rattle.series.specs.Series.{MOST_CONTRACTS}
 use Rattle.series.specs.Refusals.{Row, first, NoneApplies, length_rows, room_rows, stands_in, account_refused, position_rows, list_rows, positions_verdict, list_verdict_for}
 use Rattle.series.specs.declared.Method.{Method}
-use Rattle.rising_lists.specs.Judged.{EvenList, Walk, WalkTells, FallsLate, left_after}
+use Rattle.rising_lists.specs.Even.{EvenList}
+use Rattle.rising_lists.specs.Judged.{left_after}
 use Rattle.rising_lists.specs.Earlier.{down_from, earlier}
 use Rattle.series.proofs.RowLaws.{row_at, passed_first, refused-at}
 
@@ -179,15 +179,7 @@ module _ {order accounts shorts : List ℕ} {before highest left i : ℕ} (r : R
 -- ---- the list
 
 -- a list whose lengths no row refuses is judged by its positions
-judged_positions : (m : Method) {order accounts shorts : List ℕ} {room : ℕ} → EvenList order accounts shorts → (length shorts ≡ 0 → ⊥) → length shorts ≤ room
-    → positions_verdict m order accounts shorts ≡ list_verdict_for m order accounts shorts room
+pub judged_positions : (m : Method) {order accounts shorts : List ℕ} {room : ℕ} → EvenList order accounts shorts → (length shorts ≡ 0 → ⊥) → length shorts ≤ room
+    → list_verdict_for m order accounts shorts room ≡ positions_verdict m order accounts shorts
 unfolding first list_rows length_rows room_rows
 judged_positions m even some fits = grind (arith, nat_tests, even.lengths, even.ordered, even.few)
-
--- a walk tells of the list what it tells of the positions
-pub walked : (w : Walk) {order accounts shorts : List ℕ} {room : ℕ} → EvenList order accounts shorts → (length shorts ≡ 0 → ⊥) → length shorts ≤ room
-    → ((m : Method) → WalkTells w (positions_verdict m order accounts shorts))
-    → ((m : Method) → WalkTells w (list_verdict_for m order accounts shorts room)) × FallsLate w order accounts shorts room
-walked (Ok (Some T)) even some fits told = (λ m. told m ∙ judged_positions m even some fits, tt)
-walked (Ok None) even some fits told = (λ m. tt, (even, λ m. sym (judged_positions m even some fits)))
-walked (Err r) even some fits told = (λ m. told m ∙ judged_positions m even some fits, tt)

@@ -1,22 +1,17 @@
 -- What judging a list answers, and what the walks over its positions tell.
-use Rattle.std.specs.Prelude.{ℕ, ◌-◌, ◌≤◌, ◌≡◌, cond, eqb, ltb, List, length, Some, None, Ok, Err, Option as Option·, Result as Result·}
+use Rattle.std.specs.Prelude.{ℕ, ◌-◌, ◌≡◌, cond, eqb, ltb, List, Some, None, Ok, Err, Option as Option·, Result as Result·}
 use Rattle.series.specs.Results.{Result, refused, value}
-use Rattle.series.specs.Series.{MOST_POSITIONS}
 use Rattle.series.specs.Refusals.{positions_verdict, list_verdict_for}
 use Rattle.series.specs.Answers.{number_of, outcome_of}
 use Rattle.series.specs.declared.Method.{Method}
 use Rattle.series.specs.declared.Contracts.{Contracts}
 use Rattle.series.specs.declared.Refusal.{Refusal}
+use Rattle.series.specs.declared.Positions.{Positions}
+use Rattle.rising_lists.specs.declared.even_positions.EvenPositions.{EvenPositions}
 
 -- what judging comes to: T, or the number of the refusal
 abbrev pub judged_of : Result· Contracts Refusal → Result ℕ
 judged_of j = outcome_of (λ T. T.0) j
-
--- a list whose lengths are judged; order is what it rises by
-pub record EvenList (order accounts shorts : List ℕ) : Type 0 where
-  pub lengths : length accounts ≡ length shorts
-  pub ordered : length order ≡ length shorts
-  pub few : length shorts ≤ MOST_POSITIONS
 
 -- what is left of the most contracts after the shorts n of a position: 6 where there are none, 7 where there are too many
 abbrev pub left_after : ℕ → ℕ → Result ℕ
@@ -38,10 +33,9 @@ FallsOnly (Ok (Some T)) order accounts = Unit {0}
 FallsOnly (Ok None) order accounts = order ≡ accounts → ⊥
 FallsOnly (Err r) order accounts = Unit {0}
 
--- none is answered only where no row of the length applies, so that the positions decide
-abbrev pub FallsLate : Walk → List ℕ → List ℕ → List ℕ → ℕ → Type 0
-FallsLate (Ok (Some T)) order accounts shorts room = Unit {0}
-FallsLate (Ok None) order accounts shorts room =
-    EvenList order accounts shorts
-    × ((m : Method) → list_verdict_for m order accounts shorts room ≡ positions_verdict m order accounts shorts)
-FallsLate (Err r) order accounts shorts room = Unit {0}
+-- what judging the lengths of the positions ps tells: the first refusal that applies, or that no row of the length does, so that the positions decide
+abbrev pub LengthsTell : Result· EvenPositions Refusal → Positions → ℕ → Type 0
+LengthsTell (Ok even) ps room =
+    (even.positions ≡ ps)
+    × ((m : Method) → list_verdict_for m ps.codes.now ps.accounts.now ps.shorts.now room ≡ positions_verdict m ps.codes.now ps.accounts.now ps.shorts.now)
+LengthsTell (Err r) ps room = (m : Method) → refused (number_of r) ≡ list_verdict_for m ps.codes.now ps.accounts.now ps.shorts.now room

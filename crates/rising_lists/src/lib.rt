@@ -5,15 +5,12 @@ ghost use Rattle.std.specs.Prelude.{◌≡◌};
 ghost use Rattle.series.specs.Refusals.{positions_verdict, list_verdict_for};
 ghost use Rattle.series.specs.Answers.{outcome_of};
 ghost use Rattle.series.specs.declared.Method.{Method as Method·};
-ghost use Rattle.rising_lists.specs.Judged.{judged_of, left_after, WalkTells, FallsOnly, FallsLate, EvenList};
+ghost use Rattle.rising_lists.specs.Judged.{judged_of, left_after, WalkTells, FallsOnly, LengthsTell};
 
-use series::{Contracts, Positions, Refusal};
+mod even_positions;
 
-// A list has at most so many positions.
-const MOST_POSITIONS: usize = 4096;
-
-// T is at most so many contracts.
-pub const MOST_CONTRACTS: u32 = 10_000_000;
+pub use even_positions::EvenPositions;
+use series::{AccountList, Contracts, MOST_CONTRACTS, MOST_POSITIONS, Positions, Refusal};
 
 // Takes the shorts of a position from what is left of the most contracts.
 pub fn judge_shorts(count: u32, left: u32) -> Result<u32, Refusal>
@@ -30,12 +27,38 @@ pub fn judge_shorts(count: u32, left: u32) -> Result<u32, Refusal>
     Ok(left - count)
 }
 
-// The list, each position in turn, while its accounts rise too. None: an account does not.
-fn judge_rising(positions: &Positions) -> Result<Option<Contracts>, Refusal>
-    requires { EvenList positions.now.codes.now positions.now.accounts.now positions.now.shorts.now }
-    ensures walk_tells { (m : Method·) → WalkTells result (positions_verdict m positions.now.codes.now positions.now.accounts.now positions.now.shorts.now) }
-    ensures falls_only { FallsOnly result positions.now.codes.now positions.now.accounts.now }
+// Judges the lengths of a list, also against room, the length of an output.
+#[tactic(auto, using(std::proofs::lemmas::Bool::Decides::nat_tests), unfolding(series::specs::Refusals::first, series::specs::Refusals::list_rows, series::specs::Refusals::length_rows, series::specs::Refusals::room_rows))]
+pub fn judge_lengths<'a>(
+    positions: &Positions<'a>,
+    room: usize,
+) -> Result<EvenPositions<'a>, Refusal>
+    ensures { LengthsTell result positions.now room }
 {
+    let number = positions.shorts.len();
+    if positions.accounts.len() != number || positions.codes.len() != number {
+        return Err(Refusal::LengthsDiffer);
+    }
+    if MOST_POSITIONS < number {
+        return Err(Refusal::TooManyPositions);
+    }
+    if number == 0 {
+        return Err(Refusal::NoPositions);
+    }
+    if room < number {
+        return Err(Refusal::OutputTooShort);
+    }
+    Ok(EvenPositions {
+        positions: *positions,
+    })
+}
+
+// The list, which rises by its codes, each position in turn, while its accounts rise too. None: an account does not.
+pub fn judge_rising(list: &EvenPositions) -> Result<Option<Contracts>, Refusal>
+    ensures walk_tells { (m : Method·) → WalkTells result (positions_verdict m list.now.positions.codes.now list.now.positions.accounts.now list.now.positions.shorts.now) }
+    ensures falls_only { FallsOnly result list.now.positions.codes.now list.now.positions.accounts.now }
+{
+    let positions = list.positions;
     let mut before = 0;
     let mut highest = 0;
     let mut left = MOST_CONTRACTS;
@@ -55,37 +78,10 @@ fn judge_rising(positions: &Positions) -> Result<Option<Contracts>, Refusal>
     Ok(Some(Contracts(MOST_CONTRACTS - left)))
 }
 
-// The list, which rises by its codes: its length, also against room, the length of an output; then each position, while its accounts rise too. None: an account does not.
-#[tactic(auto, using(std::proofs::lemmas::Bool::Decides::nat_tests), unfolding(series::specs::Refusals::first, series::specs::Refusals::list_rows, series::specs::Refusals::length_rows, series::specs::Refusals::room_rows))]
-pub fn judge_rows(positions: &Positions, room: usize) -> Result<Option<Contracts>, Refusal>
-    ensures walk_tells { (m : Method·) → WalkTells result (list_verdict_for m positions.now.codes.now positions.now.accounts.now positions.now.shorts.now room) }
-    ensures falls_only { FallsOnly result positions.now.codes.now positions.now.accounts.now }
-    ensures falls_late { FallsLate result positions.now.codes.now positions.now.accounts.now positions.now.shorts.now room }
-{
-    let number = positions.shorts.len();
-    if positions.accounts.len() != number || positions.codes.len() != number {
-        return Err(Refusal::LengthsDiffer);
-    }
-    if MOST_POSITIONS < number {
-        return Err(Refusal::TooManyPositions);
-    }
-    if number == 0 {
-        return Err(Refusal::NoPositions);
-    }
-    if room < number {
-        return Err(Refusal::OutputTooShort);
-    }
-    judge_rising(positions)
-}
-
 // Judges a list under P, L and R, also against room, the length of an output: it rises by its accounts, so that none falls without 5. The promise holds for W too, where every code is its account.
-pub fn judge_by_account(accounts: &[u32], shorts: &[u32], room: usize) -> Result<Contracts, Refusal>
-    ensures { (m : Method·) → judged_of result ≡ list_verdict_for m accounts.now accounts.now shorts.now room }
+pub fn judge_by_account(list: &AccountList, room: usize) -> Result<Contracts, Refusal>
+    ensures { (m : Method·) → judged_of result ≡ list_verdict_for m list.now.accounts.now list.now.accounts.now list.now.shorts.now room }
 {
-    let positions = Positions {
-        codes: accounts,
-        accounts,
-        shorts,
-    };
-    judge_rows(&positions, room)?.ok_or(Refusal::OutOfOrder)
+    let even = judge_lengths(&list.positions(), room)?;
+    judge_rising(&even)?.ok_or(Refusal::OutOfOrder)
 }

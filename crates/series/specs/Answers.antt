@@ -10,6 +10,7 @@ use Rattle.series.specs.declared.Method.{Method}
 use Rattle.series.specs.declared.Terms.{Terms}
 use Rattle.series.specs.declared.Place.{Place}
 use Rattle.series.specs.declared.Positions.{Positions}
+use Rattle.series.specs.declared.AccountList.{AccountList}
 use Rattle.series.specs.declared.Series.{Series as Series·}
 use Rattle.series.specs.declared.Allocated.{Allocated}
 
@@ -76,6 +77,14 @@ status_of (Err r) = number_of r
 -- what the allocating call comes to
 abbrev pub answer_of : Result· Allocated Refusal → Result Allocation
 answer_of a = outcome_of allocation_of a
+
+-- the positions with the accounts for codes
+abbrev pub coded_by_account : AccountList → Positions
+coded_by_account l = record { codes = l.accounts; accounts = l.accounts; shorts = l.shorts }
+
+-- the accounts and shorts of the positions
+abbrev pub without_codes : Positions → AccountList
+without_codes p = record { accounts = p.accounts; shorts = p.shorts }
 
 -- the series of these positions under other terms
 abbrev pub series_on : Terms → Positions → Series

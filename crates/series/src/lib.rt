@@ -2,7 +2,7 @@
 #![tactic(auto)]
 
 ghost use Rattle.std.specs.Prelude.{◌≡◌};
-ghost use Rattle.series.specs.Answers.{number_of};
+ghost use Rattle.series.specs.Answers.{number_of, coded_by_account, without_codes};
 ghost use Rattle.series.specs.Series.{terms_of};
 
 // A place on the wheel, document 01's "place": counts from 1.
@@ -31,6 +31,12 @@ pub struct Terms {
     pub increment: Contracts,
 }
 
+// A list has at most so many positions.
+pub const MOST_POSITIONS: usize = 4096;
+
+// T is at most so many contracts.
+pub const MOST_CONTRACTS: u32 = 10_000_000;
+
 // The increment where none is given.
 pub const DEFAULT_INCREMENT: u32 = 25;
 
@@ -52,6 +58,40 @@ pub struct Positions<'a> {
     pub codes: &'a [u32],
     pub accounts: &'a [u32],
     pub shorts: &'a [u32],
+}
+
+impl<'a> Positions<'a> {
+    // The accounts and shorts alone.
+    pub fn account_list(&self) -> AccountList<'a>
+        ensures { result ≡ without_codes self.now }
+    {
+        let Positions {
+            accounts,
+            shorts,
+            ..
+        } = *self;
+        AccountList { accounts, shorts }
+    }
+}
+
+// Short positions with no codes of their own: an account and its shorts each.
+#[derive(Clone, Copy)]
+pub struct AccountList<'a> {
+    pub accounts: &'a [u32],
+    pub shorts: &'a [u32],
+}
+
+impl<'a> AccountList<'a> {
+    // The positions, with the accounts for codes.
+    pub fn positions(&self) -> Positions<'a>
+        ensures { result ≡ coded_by_account self.now }
+    {
+        Positions {
+            codes: self.accounts,
+            accounts: self.accounts,
+            shorts: self.shorts,
+        }
+    }
 }
 
 // A series: its terms and its positions.

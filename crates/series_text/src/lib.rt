@@ -32,18 +32,18 @@ pub fn read(
 {
     let head = read_head(text)?;
     // The positions stand here until nothing can refuse any more.
-    let mut lists = Lists {
+    let mut found = Lists {
         codes: [0; 1024],
         accounts: [0; 1024],
         numbers: [0; 1024],
     };
-    let n = read_positions(head.lines, head.columns.coded, &mut lists)?;
+    let n = read_positions(head.lines, head.columns.coded, &mut found)?;
     if codes.len() < n || accounts.len() < n || numbers.len() < n {
         return Err(Refusal::OutputTooShort);
     }
-    codes[..n].copy_from_slice(&lists.codes[..n]);
-    accounts[..n].copy_from_slice(&lists.accounts[..n]);
-    numbers[..n].copy_from_slice(&lists.numbers[..n]);
+    lists::copy(&found.codes[..n], codes);
+    lists::copy(&found.accounts[..n], accounts);
+    lists::copy(&found.numbers[..n], numbers);
     Ok(ReadSeries {
         form: head.columns.form,
         terms: head.terms,

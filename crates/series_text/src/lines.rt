@@ -5,7 +5,7 @@ use series::Refusal;
 use text_fields::Read;
 use text_fields::row::read_row;
 
-// The codes, the accounts and the shorts or last numbers of at most 1,024 positions.
+// The codes, the accounts and the shorts or last numbers of at most 1,024 positions. Arrays, as the project has no heap.
 #[derive(Drop)]
 pub struct Lists {
     pub codes: [u32; 1024],
@@ -32,19 +32,19 @@ pub fn read_positions(text: &[u8], coded: bool, lists: &mut Lists) -> Result<usi
     ensures { LinesRead coded text.now lists.new.codes lists.new.accounts lists.new.numbers result }
 {
     let mut rest = text;
-    let mut n = 0;
-    // A `while`: the end of the text ends the loop, not a count.
-    while !rest.is_empty() {
-        if n >= 1024 {
-            return Err(Refusal::TooManyLines);
+    for n in 0..1024 {
+        if rest.is_empty() {
+            return Ok(n);
         }
         let position = read_position(rest, coded).ok_or(Refusal::Malformed)?;
         let [code, account, number] = position.found;
         lists.codes[n] = code;
         lists.accounts[n] = account;
         lists.numbers[n] = number;
-        n += 1;
         rest = position.rest;
     }
-    Ok(n)
+    if !rest.is_empty() {
+        return Err(Refusal::TooManyLines);
+    }
+    Ok(1024)
 }

@@ -17,7 +17,7 @@ fn print_number(rt: &impl Print, n: u64) {
 // A list and the end of the line.
 fn print_list(rt: &impl Print, list: &[u32]) {
     for &number in list {
-        print_number(rt, number as u64);
+        print_number(rt, u64::from(number));
     }
     print(rt, b"\n");
 }
@@ -43,7 +43,7 @@ fn print_form(rt: &impl Print, form: Form) {
 fn print_increment(rt: &impl Print, increment: Contracts) {
     if increment.0 != DEFAULT_INCREMENT {
         print(rt, b"by ");
-        print_number(rt, increment.0 as u64);
+        print_number(rt, u64::from(increment.0));
     }
 }
 
@@ -51,14 +51,14 @@ fn print_terms(rt: &impl Print, terms: Terms) {
     let method = terms.method;
     let exercised = terms.exercised;
     print_method(rt, method);
-    print_number(rt, exercised.0 as u64);
-    print_number(rt, terms.draw as u64);
+    print_number(rt, u64::from(exercised.0));
+    print_number(rt, u64::from(terms.draw));
     print_increment(rt, terms.increment);
 }
 
 fn print_refusal(rt: &impl Print, refusal: Refusal) {
     print(rt, b"refused ");
-    print_number(rt, u32::from(refusal) as u64);
+    print_number(rt, u64::from(u32::from(refusal)));
     print(rt, b"\n");
 }
 
@@ -155,13 +155,18 @@ fn texts(rt: &impl Print, stdin: &mut impl Read) {
     let Ok(n) = console::read_input(stdin, &mut input) else {
         return;
     };
-    let mut rest = &input[..n];
-    while let Some(end) = rest.iter().position(|&byte| byte == b'|') {
-        let text = &rest[..end];
-        if !text.starts_with(b"#") {
-            show(rt, text);
+    let mut at = 0;
+    // A `while`: `split` would hand on the byte after each bar too, and what stands after the last one.
+    while at < n {
+        let rest = &input[at..];
+        let end = rest
+            .iter()
+            .position(|&byte| byte == b'|')
+            .unwrap_or(rest.len());
+        if !rest.starts_with(b"#") {
+            show(rt, &rest[..end]);
         }
-        rest = rest.get(end + 2..).unwrap_or(&[]);
+        at += end + 2;
     }
 }
 

@@ -16,7 +16,7 @@ pub enum StartBy {
     Remainder,
 }
 
-// How a draw leads to a starting place under L or R; W and P do not ask.
+// How a draw leads to a starting place under L or R; W and P do not ask. No conversion: they have no start of their own.
 pub fn start_by(method: Method) -> StartBy
     ensures { result ≡ start_by method }
 {
@@ -27,12 +27,14 @@ pub fn start_by(method: Method) -> StartBy
 }
 
 // The method that goes by such a start.
-pub fn method_for(by: StartBy) -> Method
-    ensures { result ≡ method_for by }
-{
-    match by {
-        StartBy::TenThousandths => Method::Lottery,
-        StartBy::Remainder => Method::RemainderDraw,
+impl From<StartBy> for Method {
+    ghost from_gives = { λ by method. method ≡ method_for by };
+
+    fn from(by: StartBy) -> Method {
+        match by {
+            StartBy::TenThousandths => Method::Lottery,
+            StartBy::Remainder => Method::RemainderDraw,
+        }
     }
 }
 

@@ -1,5 +1,5 @@
 -- Laws of a field and of a line that are read byte by byte.
-use Prim.Native.Nat.{ℕ, suc, ◌+◌, ◌-◌, ◌*◌, ◌^◌, ◌≤◌, ◌<◌}
+use Prim.Native.Nat.{ℕ, zero, suc, ◌+◌, ◌-◌, ◌*◌, ◌^◌, ◌≤◌, ◌<◌}
 use mathlib.Core.Path.{◌≡◌, refl, sym, ap, ◌∙◌}
 use mathlib.Core.Bool.{Bool, true, false, cond, ◌&&◌, and-false}
 use mathlib.Core.List.{[], ◌∷◌, ◌++◌, append_assoc, append-nil}
@@ -13,11 +13,12 @@ use lib.ListN.{length, get_or, take, drop, length-append, length-drop, length-ta
 use lib.Seq.{take-suc, take_all, drop-cons, drop-drop, length-take-le}
 use Rattle.std.specs.Prelude.{Option, Some, None, MatchOption}
 use Rattle.std.specs.Borrow.{Bor}
+use Rattle.std.specs.List.{AllWithin}
 use Rattle.series.specs.Results.{Result, refused, value, ◌>>=◌}
 use Rattle.series.proofs.ResultLaws.{never, value_is}
 use Rattle.text_rules.specs.Fields.{Text, Read, ends, field, past, field_by}
 use Rattle.text_rules.specs.Names.{after_line}
-use Rattle.text_fields.specs.Parts.{Onward, rest_of, number_by}
+use Rattle.text_fields.specs.Parts.{Onward, RestOf, rest_of, number_by}
 use Rattle.text_rules.specs.Numbers.{LARGEST, MOST_DIGITS, digit, digits, spelled, amount_from, amount, numeral, number}
 use Rattle.text_rules.proofs.FieldLaws.{prefixed, prefixed_nil, prefixed_prefixed, field_byte, field_end, field_other, field_none, digits_append, amount-more, digits_read, digit_bounds, ends-digit}
 
@@ -80,6 +81,11 @@ module _ (c : ℕ) (s : Text) (i : ℕ) (so : ReadTo c s i) where
   pub read_none : length s ≤ i → field_by c s ≡ refused 13
   unfolding prefixed
   read_none le = so ∙ ap (λ (t : Text). prefixed (take i s) (field_by c t)) (drop_of_length-le s le) ∙ ap (prefixed (take i s)) (field_none c)
+
+-- where no byte before an index ends a field, the first field is read up to it
+pub read_passed : (c : ℕ) (s : Text) (i : ℕ) → i ≤ length s → AllWithin (λ b. ends b ≡ false) s 0 i → ReadTo c s i
+read_passed c s zero le none = read_start c s
+read_passed c s (suc i) le none = rw add-one at (read_more c s i (read_passed c s i (omega arith) (λ k d low lt. none k d low (omega arith))) (omega arith) (none i 0 (omega arith) (omega arith)))
 
 -- ---- a number
 
@@ -260,3 +266,34 @@ field_onward c s f e = go (drop n s) refl e
         picked true e =
             let is = after u e in
             rw is (ap (drop 1) (sym d) ∙ drop-drop 1 n s, record { from = omega arith; within = omega (arith, long) })
+
+-- both, as a text that goes on
+pub line_rest : (p s rest : Text) → value rest ≡ after_line p s → RestOf s rest
+line_rest p s rest e = let on = line_onward p s rest e in record { next = length p; is = on.0; onward = on.1 }
+
+pub field_rest : (c : ℕ) (s : Text) (f : Read Text) → value f ≡ field_by c s → RestOf s f.rest
+field_rest c s f e = let on = field_onward c s f e in record { next = length f.found + 1; is = on.0; onward = on.1 }
+
+-- what stands after a part, and after another part of that
+pub rest_more : {s t u : Text} → RestOf s t → RestOf t u → RestOf s u
+rest_more {s} {t} {u} p q = record {
+  next = p.next + q.next;
+  is = q.is ∙ ap (drop q.next) p.is ∙ drop-drop q.next p.next s;
+  onward = record { from = omega arith; within = omega (arith, ap length p.is, length-drop p.next s) };
+}
+
+module _ {A : Type 0} (s : Text) (r : Read A) where
+  -- nothing more is read
+  pub rest_end : (a : A) → value r ≡ value (record { found = a; rest = s }) → RestOf s r.rest
+  rest_end a e = rw (value_is e) (record { next = 0; is = refl; onward = record { from = omega arith; within = omega arith } })
+
+  module _ {B : Type 0} where
+    -- a part is read, and then what follows it
+    pub rest_part : (q : Result (Read B)) (f : Read B → Result (Read A)) → ((b : Read B) → value b ≡ q → RestOf s b.rest) → ((b : Read B) → value r ≡ f b → RestOf b.rest r.rest) → value r ≡ (q >>= f) → RestOf s r.rest
+    rest_part (refused n) f part on e = absurd (never n r (sym e))
+    rest_part (value b) f part on e = rest_more (part b refl) (on b e)
+
+    -- what was read is judged
+    pub rest_kept : (q : Result B) (f : B → Result (Read A)) → ((b : B) → value r ≡ f b → RestOf s r.rest) → value r ≡ (q >>= f) → RestOf s r.rest
+    rest_kept (refused n) f on e = absurd (never n r (sym e))
+    rest_kept (value b) f on e = on b e

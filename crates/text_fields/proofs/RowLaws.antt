@@ -14,8 +14,8 @@ use Rattle.series.proofs.ResultLaws.{never}
 use Rattle.text_rules.specs.Numbers.{number}
 use Rattle.text_rules.specs.Fields.{Text, COMMA, NEWLINE, Read, ends, field, past, field_by, end_before, read_fields}
 use Rattle.text_rules.specs.Rows.{numbers, read_row}
-use Rattle.text_fields.specs.Parts.{found_fields, number_by, leading}
-use Rattle.text_fields.proofs.FieldLaws.{numbered, number_by_numbered}
+use Rattle.text_fields.specs.Parts.{RestOf, found_fields, number_by, leading}
+use Rattle.text_fields.proofs.FieldLaws.{numbered, number_by_numbered, field_rest, rest_end, rest_part, rest_kept}
 
 -- ---- the byte that ends a field
 
@@ -211,3 +211,16 @@ module _ {old : List ℕ} {s : Text} {row : List ℕ} {rest : Text} {i left : �
           kept = drop-set-lt (i + 1) row i n (omega arith) ∙ sym (drop-drop 1 i row) ∙ ap (drop 1) so.kept ∙ drop-drop 1 i old;
           long = length-set row i n ∙ so.long;
         }
+
+-- ---- the text after what was read
+
+-- what stands after a line of fields is the text from an index on, at which reading goes on
+pub fields_onward : (k : ℕ) (s : Text) (fs : Read (List Text)) → value fs ≡ read_fields k s → RestOf s fs.rest
+unfolding read_fields
+fields_onward zero s fs = rest_end s fs []
+fields_onward (suc k) s fs = rest_part s fs (field_by (end_before COMMA NEWLINE k) s) _ (field_rest (end_before COMMA NEWLINE k) s) (λ f. rest_part f.rest fs (read_fields k f.rest) _ (fields_onward k f.rest) (λ others. rest_end others.rest fs (f.found ∷ others.found)))
+
+-- so is what stands after a row
+pub row_onward : (k : ℕ) (s : Text) (r : Read (List ℕ)) → value r ≡ read_row k s → RestOf s r.rest
+unfolding read_row
+row_onward k s r = rest_part s r (read_fields k s) _ (fields_onward k s) (λ fs. rest_kept fs.rest r (numbers fs.found) _ (rest_end fs.rest r))

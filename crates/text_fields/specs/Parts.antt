@@ -1,5 +1,5 @@
 -- What the answers of the functions mean, and the promises about each.
-use Rattle.std.specs.Prelude.{ℕ, zero, suc, ◌≤◌, max, ◌≡◌, Bool, true, false, List, [], ◌∷◌, length, Option, Some, None}
+use Rattle.std.specs.Prelude.{ℕ, zero, suc, ◌≤◌, max, ◌≡◌, Bool, true, false, List, [], ◌∷◌, length, drop, Option, Some, None}
 use Rattle.std.specs.Borrow.{Bor}
 use Rattle.series.specs.Results.{Result, refused, value, ◌>>=◌, after}
 use Rattle.series.specs.Outputs.{onto}
@@ -12,6 +12,12 @@ use Rattle.text_fields.specs.declared.Read.{Read as Read·}
 pub record Onward (s : Text) (at next : ℕ) : Type 0 where
   pub from : at ≤ next
   pub within : next ≤ max at (length s)
+
+-- the text rest is s from an index on at which reading goes on
+pub record RestOf (s rest : Text) : Type 0 where
+  pub next : ℕ
+  pub is : rest ≡ drop next s
+  pub onward : Onward s 0 next
 
 -- the text after what was read, or the refusal n where nothing was
 abbrev pub rest_of : ℕ → Option (Bor Text) → Result Text

@@ -2,7 +2,7 @@
 ghost use Rattle.std.specs.Prelude.{◌≡◌, length};
 ghost use Rattle.text_rules.specs.Numbers.{decimal};
 
-// How many digits a number has. With `checked_ilog10` writing ten positions takes a tenth longer.
+// How many digits a number has. Writing may take no longer than in plain Rust: with `checked_ilog10` ten positions take a tenth longer, and one a fifth.
 pub fn digits_of(n: u32) -> usize
     ensures { result ≡ length (decimal n) }
 {

@@ -24,16 +24,12 @@ fn ends_field(byte: u8) -> bool
 pub fn read_field<'a>(text: &'a [u8], end: u8) -> Option<Read<'a, &'a [u8]>>
     ensures { read_of 13 (λ found. found.now) result ≡ field_by end text.now }
 {
-    for (i, &byte) in text.iter().enumerate() {
-        if ends_field(byte) {
-            if byte != end {
-                return None;
-            }
-            return Some(Read {
-                found: &text[..i],
-                rest: &text[i + 1..],
-            });
-        }
+    let i = text.iter().position(|&byte| ends_field(byte))?;
+    if text[i] != end {
+        return None;
     }
-    None
+    Some(Read {
+        found: &text[..i],
+        rest: &text[i + 1..],
+    })
 }

@@ -1,13 +1,14 @@
 -- Laws of the method, of line 2, and of lines 1 to 3.
 use Prim.Native.Nat.{ℕ, zero, suc, ◌≤◌, ◌<◌}
 use mathlib.Core.Path.{◌≡◌, refl, sym, ap, ◌∙◌}
-use mathlib.Core.Bool.{true, false, false≢true}
+use mathlib.Core.Bool.{Bool, true, false, false≢true}
 use mathlib.Core.List.{List, [], ◌∷◌, ◌++◌}
 use native.Mathlib.Omega.{arith}
 use borrow.Author.Tests.{lt-ltb, le-ltb}
 use lib.ListN.{length, get_or, drop}
+use lib.Dec.{ltb}
 use lib.Seq.{drop-nil}
-use Rattle.series.specs.Results.{Result, refused, value, ◌>>=◌}
+use Rattle.series.specs.Results.{Result, refused, value, ◌>>=◌, refuse}
 use Rattle.series.specs.declared.Method.{Method}
 use Rattle.series.specs.declared.Terms.{Terms}
 use Rattle.series.proofs.ResultLaws.{never}
@@ -15,11 +16,13 @@ use Rattle.text_rules.specs.Fields.{Text, COMMA, Read, field_by, read_fields}
 use Rattle.text_rules.specs.Rows.{numbers, read_row}
 use Rattle.text_rules.specs.Names.{terms_line, terms_numbers, line1, positions_line, line3, read_names}
 use Rattle.text_rules.specs.Letters.{method_by, method_of}
-use Rattle.text_rules.specs.Text.{MOST_BYTES, terms_from, read_terms, read_head}
+use Rattle.text_rules.specs.Text.{MOST_BYTES, terms_from, read_terms, Head, read_head}
 use Rattle.text_rules.specs.declared.TermsColumns.{TermsColumns}
 use Rattle.text_rules.specs.declared.PositionColumns.{PositionColumns}
-use Rattle.text_fields.specs.Parts.{found_fields}
-use Rattle.text_fields.proofs.RowLaws.{Only, fields_only, before, row_by}
+use Rattle.text_fields.specs.Parts.{RestOf, found_fields}
+use Rattle.text_fields.proofs.FieldLaws.{field_rest, rest_end, rest_part, rest_kept}
+use Rattle.text_fields.proofs.RowLaws.{Only, fields_only, before, row_by, fields_onward}
+use Rattle.text_words.proofs.NameLaws.{names_onward}
 
 -- ---- the method
 
@@ -142,3 +145,29 @@ module _ (s : Text) (fits : length s ≤ MOST_BYTES) where
           → value (record { found = record { terms = t.found; form = columns.found.form; coded = columns.found.coded }; rest = columns.rest }) ≡ read_head s
       unfolding read_head
       head_all h = rw (le-ltb MOST_BYTES (length s) fits, ← hn, ← ht, ← h)
+
+-- ---- the text after what was read
+
+-- what stands after line 2 is the text from an index on, at which reading goes on
+pub terms_onward : (k : ℕ) (s : Text) (t : Read Terms) → value t ≡ read_terms k s → RestOf s t.rest
+unfolding read_terms
+terms_onward k s t =
+    rest_part s t (field_by COMMA s) _ (field_rest COMMA s)
+    (λ m. rest_part m.rest t (read_fields k m.rest) _ (fields_onward k m.rest)
+    (λ fs. rest_kept fs.rest t (method_of m.found) _
+    (λ how. rest_kept fs.rest t (numbers fs.found) _
+    (λ ns. rest_end fs.rest t (terms_from how ns)))))
+
+-- so is what stands after lines 1 to 3
+pub head_onward : (s : Text) (h : Read Head) → value h ≡ read_head s → RestOf s h.rest
+unfolding read_head
+head_onward s h =
+    fitting (ltb MOST_BYTES (length s)) _
+    (rest_part s h (read_names terms_line line1 s) _ (names_onward terms_line line1 s)
+    (λ names. rest_part names.rest h (read_terms (terms_numbers names.found) names.rest) _ (terms_onward (terms_numbers names.found) names.rest)
+    (λ t. rest_part t.rest h (read_names positions_line line3 t.rest) _ (names_onward positions_line line3 t.rest)
+    (λ columns. rest_end columns.rest h (record { terms = t.found; form = columns.found.form; coded = columns.found.coded })))))
+  where
+    fitting : (long : Bool) (f : Text → Result (Read Head)) → (value h ≡ f s → RestOf s h.rest) → value h ≡ (refuse long 11 s >>= f) → RestOf s h.rest
+    fitting true f on e = absurd (never 11 h (sym e))
+    fitting false f on e = on e

@@ -3,27 +3,26 @@ use mathlib.Core.Path.{◌≡◌, refl, sym, ◌∙◌}
 use mathlib.Core.Bool.{true, false}
 use mathlib.Core.List.{List, [], ◌∷◌, ◌++◌}
 use Rattle.series.specs.Results.{Result, refused, value}
+use Rattle.series.proofs.ResultLaws.{never, value_is}
 use Rattle.text_rules.specs.Fields.{Text, Read}
 use Rattle.text_rules.specs.Names.{after_line, code_name, account_line, positions_line, in_forms, line3, names_or, read_names}
 use Rattle.text_rules.specs.declared.PositionColumns.{PositionColumns}
 use Rattle.text_rules.proofs.NameLaws.{word_there, word_missing, code_there, code_missing}
+use Rattle.text_fields.specs.Parts.{RestOf}
+use Rattle.text_fields.proofs.FieldLaws.{line_rest}
 
 -- ---- the columns that a line may name
 
-module _ {A : Type 0} (line : A → Text) (s : Text) where
-  -- the line of the first known columns is there
-  pub first_known : (c : A) (known : List A) {rest : Text} → value rest ≡ after_line (line c) s → value (record { found = c; rest = rest }) ≡ read_names line (c ∷ known) s
-  unfolding read_names names_or
-  first_known c known h = rw (← h) refl
+module _ {A : Type 0} (c : A) (other : Result (Read A)) {after : Result Text} where
+  -- their line is there
+  pub there : {rest : Text} → value rest ≡ after → value (record { found = c; rest = rest }) ≡ names_or c after other
+  unfolding names_or
+  there h = rw (← h) refl
 
   -- it is not, and the others are looked for
-  pub other_known : (c : A) (known : List A) {r : Result (Read A)} → refused 12 ≡ after_line (line c) s → r ≡ read_names line known s → r ≡ read_names line (c ∷ known) s
-  unfolding read_names names_or
-  other_known c known h q = rw (← h) q
-
-  pub none_known : refused 12 ≡ read_names line [] s
-  unfolding read_names
-  none_known = refl
+  pub not_there : {r : Result (Read A)} → refused 12 ≡ after → r ≡ other → r ≡ names_or c after other
+  unfolding names_or
+  not_there h q = rw (← h) q
 
 -- ---- line 3
 
@@ -44,3 +43,15 @@ module _ (p : Text) (line : PositionColumns → Text) (known : List PositionColu
   -- it is not
   pub without_word : refused 12 ≡ after_line p s → refused 12 ≡ read_names (λ c. p ++ line c) known s
   without_word h = sym (word_missing line p known s 12 (sym h))
+
+-- ---- the text after what was read
+
+-- what stands after a names line is the text from an index on, at which reading goes on
+pub names_onward : {A : Type 0} (line : A → Text) (known : List A) (s : Text) (r : Read A) → value r ≡ read_names line known s → RestOf s r.rest
+unfolding read_names names_or
+names_onward line [] s r e = absurd (never 12 r (sym e))
+names_onward {A} line (c ∷ known) s r e = go (after_line (line c) s) refl e (names_onward line known s r)
+  where
+    go : (after : Result Text) → after_line (line c) s ≡ after → value r ≡ names_or c after (read_names line known s) → (value r ≡ read_names line known s → RestOf s r.rest) → RestOf s r.rest
+    go (value rest) h e others = rw (value_is e) (line_rest (line c) s rest (sym h))
+    go (refused n) h e others = others e

@@ -5,7 +5,7 @@ ghost use Rattle.text_words.specs.Parts.{named_means};
 
 use series::Method;
 
-// The method of the letter W, P, L or R.
+// The method of the letter W, P, L or R. No impl of `TryFrom`: it would stand beside `Method`, in `series`, and what a letter means is defined in `text_rules`, above that.
 pub fn method_by(letter: u8) -> Option<Method>
     ensures { named_means result ≡ method_by letter }
 {
@@ -18,7 +18,7 @@ pub fn method_by(letter: u8) -> Option<Method>
     }
 }
 
-// The letter of a method. No impl of `From`: it would stand in `series`, beside `Method`, and letters belong to texts.
+// The letter of a method, a function for the same reason.
 pub fn letter_of(method: Method) -> u8
     ensures { result ≡ letter method }
 {

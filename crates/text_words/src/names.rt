@@ -1,6 +1,7 @@
 // The names lines: fixed byte strings that the reader compares and the writer writes. Line 3 is put together from the names of its columns.
 ghost use Rattle.std.specs.Prelude.{◌≡◌};
-ghost use Rattle.text_rules.specs.Names.{terms_line, line1, terms_numbers, form_name, account_line, positions_line, in_forms, line3, read_names};
+ghost use Rattle.series.specs.Results.{refused};
+ghost use Rattle.text_rules.specs.Names.{terms_line, line1, terms_numbers, form_name, account_line, positions_line, in_forms, line3, after_line, names_or, read_names};
 ghost use Rattle.text_fields.specs.Parts.{read_of};
 
 use forms::Form;
@@ -26,17 +27,32 @@ pub const SHORT_NAME: [u8; 6] = *b"short\n";
 // The name of the last column in a text with last numbers.
 pub const LAST_NAME: [u8; 5] = *b"last\n";
 
+// Reads one of two lines: what the first one that the text begins with stands for.
+fn read_either<'a, T: Copy>(
+    text: &'a [u8],
+    first: (&[u8], T),
+    second: (&[u8], T),
+) -> Option<Read<'a, T>>
+    ensures { read_of 12 (λ found. found) result ≡ names_or first.entry.1 (after_line first.entry.0.now text.now) (names_or second.entry.1 (after_line second.entry.0.now text.now) (refused 12)) }
+{
+    let (line, found) = first;
+    if let Some(rest) = skip_line(text, line) {
+        return Some(Read { found, rest });
+    }
+    let (line, found) = second;
+    let rest = skip_line(text, line)?;
+    Some(Read { found, rest })
+}
+
 // Reads line 1: the columns that it names.
 pub fn read_terms_names<'a>(text: &'a [u8]) -> Option<Read<'a, TermsColumns>>
     ensures { read_of 12 (λ found. found) result ≡ read_names terms_line line1 text.now }
 {
-    if let Some(rest) = skip_line(text, &TERMS_NAMES) {
-        let found = TermsColumns::MethodExercisedDraw;
-        return Some(Read { found, rest });
-    }
-    let rest = skip_line(text, &INCREMENT_NAMES)?;
-    let found = TermsColumns::MethodExercisedDrawIncrement;
-    Some(Read { found, rest })
+    read_either(
+        text,
+        (&TERMS_NAMES, TermsColumns::MethodExercisedDraw),
+        (&INCREMENT_NAMES, TermsColumns::MethodExercisedDrawIncrement),
+    )
 }
 
 // How many numbers line 2 has after the method.
@@ -53,15 +69,15 @@ pub fn terms_numbers(columns: TermsColumns) -> usize
 fn read_form_name<'a>(text: &'a [u8], coded: bool) -> Option<Read<'a, PositionColumns>>
     ensures { read_of 12 (λ found. found) result ≡ read_names (λ c. form_name c.form) (in_forms coded) text.now }
 {
-    if let Some(rest) = skip_line(text, &SHORT_NAME) {
-        let form = Form::Shorts;
-        let found = PositionColumns { form, coded };
-        return Some(Read { found, rest });
-    }
-    let rest = skip_line(text, &LAST_NAME)?;
-    let form = Form::LastNumbers;
-    let found = PositionColumns { form, coded };
-    Some(Read { found, rest })
+    let shorts = PositionColumns {
+        form: Form::Shorts,
+        coded,
+    };
+    let last_numbers = PositionColumns {
+        form: Form::LastNumbers,
+        coded,
+    };
+    read_either(text, (&SHORT_NAME, shorts), (&LAST_NAME, last_numbers))
 }
 
 // Reads line 3 from the name of the account column on.

@@ -1,5 +1,5 @@
 -- Laws of a table: its columns, its rows and its lines.
-use Prim.Native.Nat.{ℕ, zero, suc, ◌+◌, ◌-◌, ◌≤◌, ◌<◌}
+use Prim.Native.Nat.{ℕ, zero, suc, ◌+◌, ◌-◌, ◌*◌, ◌≤◌, ◌<◌}
 use mathlib.Core.Path.{◌≡◌, refl, sym, ap, ◌∙◌}
 use mathlib.Core.List.{List, [], ◌∷◌, map}
 use native.Mathlib.Omega.{arith}
@@ -7,17 +7,18 @@ use native.Mathlib.Numerals.{add-one}
 use borrow.Author.Tests.{eqb-true}
 use denote.Bor.{Bor}
 use Rattle.std.specs.Prelude.{Some, None}
-use Rattle.std.specs.List.{slice_get}
+use Rattle.std.specs.List.{slice_get, sum_by}
 use lib.Dec.{eqb}
-use lib.ListN.{length, get_or, drop, length-map, drop_of_length-le}
-use lib.Seq.{drop-cons}
+use lib.ListN.{length, get_or, length-map}
 use Rattle.std.proofs.lemmas.List.Recursion.{and_at}
+use Rattle.std.proofs.lemmas.List.Sums.{sum_by-cons}
 use Rattle.series.specs.Sums.{sum_below, listed}
 use Rattle.series.proofs.SumLaws.{sum_cong, sum-add, sum_const, sum_head}
 use Rattle.text_rules.specs.Numbers.{decimal}
 use Rattle.text_rules.specs.Fields.{COMMA, NEWLINE, end_before, write_number}
 use Rattle.text_rules.specs.Rows.{write_parted, write_row, write_rows, row_of, rows_of}
 use Rattle.text_rules.specs.Calls.{evenly, line_count}
+use Rattle.text_rules.proofs.DecimalLaws.{digits-few}
 use Rattle.text_rules.proofs.LengthLaws.{length-row, number_at, lines_of, lines_next_length, lines_within, even_each}
 use Rattle.text_rules.proofs.RowLaws.{Each}
 use Rattle.text_writing.specs.Columns.{Even}
@@ -42,11 +43,11 @@ none_first [] e = refl
 none_first (b ∷ bs) e = cc
 
 -- a column of a table has as many numbers as there are lines
-pub column_long : (bs : List (Bor (List ℕ))) (j : ℕ) → Even (behind bs) → j < length bs → length ((get_or bs j nowhere).now) ≡ line_count (behind bs)
+pub column_long : (bs : List (Bor (List ℕ))) (j : ℕ) (d : Bor (List ℕ)) → Even (behind bs) → j < length bs → length ((get_or bs j d).now) ≡ line_count (behind bs)
 unfolding evenly
-column_long bs j even lt =
+column_long bs j d even lt =
     let n : ℕ = line_count (behind bs) in
-    eqb-true _ n (and_at (λ bs. evenly n (behind bs)) (λ b. eqb (length b.now) n) refl (λ b bs. refl) bs j nowhere lt even.same)
+    eqb-true _ n (and_at (λ bs. evenly n (behind bs)) (λ b. eqb (length b.now) n) refl (λ b bs. refl) bs j d lt even.same)
 
 -- a row has a number of each column
 pub row_long : (bs : List (Bor (List ℕ))) (i : ℕ) → length (row_of (behind bs) i) ≡ length bs
@@ -73,6 +74,16 @@ pub lines_fit : (cs : List (List ℕ)) (from room i : ℕ) → i < line_count cs
 lines_fit cs from room i lt fits = omega (arith, fits, ap length (lines_whole cs), lines_within (row_of cs) (i + 1) (line_count cs) (omega arith), lines_next_length (row_of cs) i)
 
 -- ---- how long the lines are
+
+-- a row has the digits of its numbers, and a byte after each
+pub row_digits : (row : List ℕ) → length (write_row row) ≡ sum_by (λ n. length (decimal n)) row + length row
+unfolding write_parted
+row_digits [] = refl
+row_digits (n ∷ ns) = omega (arith, length-row n ns, sum_by-cons (λ n. length (decimal n)) n ns, row_digits ns)
+
+pub digits_within : (row : List ℕ) → sum_by (λ n. length (decimal n)) row ≤ 10 * length row
+digits_within [] = omega arith
+digits_within (n ∷ ns) = omega (arith, sum_by-cons (λ n. length (decimal n)) n ns, digits-few n, digits_within ns)
 
 -- the length of a row is that of its numbers, with a byte after each
 row_sum : (row : List ℕ) → length (write_row row) ≡ sum_below (λ i. length (decimal (get_or row i 0)) + 1) (length row)
@@ -105,9 +116,15 @@ by_columns (c ∷ cs) n each =
 pub lines_by_columns : (cs : List (List ℕ)) → Even cs → length (write_rows (rows_of cs)) ≡ columns_length cs
 lines_by_columns cs even = ap length (sym (lines_whole cs)) ∙ lines_sum (row_of cs) (line_count cs) ∙ by_columns cs (line_count cs) (even_each (line_count cs) cs even.same)
 
--- one column more is measured
-pub column_next : (bs : List (Bor (List ℕ))) (j : ℕ) → j < length bs → columns_length (behind (drop j bs)) ≡ length (write_row ((get_or bs j nowhere).now)) + columns_length (behind (drop (j + 1) bs))
-column_next bs j lt = rw (drop-cons bs j nowhere lt, add-one)
+-- what `sum` comes to of the columns
+pub columns_sum : (bs : List (Bor (List ℕ))) → sum_by (λ b. length (write_row b.now)) bs ≡ columns_length (behind bs)
+columns_sum [] = refl
+columns_sum (b ∷ bs) = omega (arith, sum_by-cons (λ b. length (write_row b.now)) b bs, columns_sum bs)
 
-pub columns_done : (bs : List (Bor (List ℕ))) (j : ℕ) → length bs ≤ j → columns_length (behind (drop j bs)) ≡ 0
-columns_done bs j le = rw (drop_of_length-le bs le)
+-- each column has at most 11 bytes for each line
+pub columns_within : (bs : List (Bor (List ℕ))) → Even (behind bs) → columns_length (behind bs) ≤ 11264 * length bs
+columns_within bs even = go bs (even_each (line_count (behind bs)) (behind bs) even.same)
+  where
+    go : (ds : List (Bor (List ℕ))) → Each (λ c. length c ≡ line_count (behind bs)) (behind ds) → columns_length (behind ds) ≤ 11264 * length ds
+    go [] each = omega arith
+    go (d ∷ ds) each = omega (arith, row_digits d.now, digits_within d.now, each.0, even.few, go ds each.1)

@@ -1,14 +1,14 @@
 -- Laws of the lines that are written: how they are put, and what the calls that write hand back and leave.
 use Prim.Native.Nat.{ℕ, ◌+◌, ◌≤◌, ◌<◌}
 use mathlib.Core.Path.{◌≡◌, refl, sym, ap, ◌∙◌}
-use mathlib.Core.Bool.{Bool, true, false, not}
-use mathlib.Core.List.{List, [], ◌∷◌, ◌++◌, append_assoc, append-nil}
+use mathlib.Core.Bool.{Bool, true, false}
+use mathlib.Core.List.{List, [], ◌∷◌, ◌++◌, append_assoc}
 use native.Mathlib.Omega.{arith}
 use native.Mathlib.Nat.{zero-add}
-use borrow.Author.Tests.{lt-ltb, le-ltb, ltb-false, not-false}
+use borrow.Author.Tests.{lt-ltb, le-ltb, ltb-false}
 use lib.ListN.{length, take, length-append}
 use lib.Dec.{ltb}
-use Rattle.series.specs.Results.{Result, refused, value, ◌>>=◌, refuse}
+use Rattle.series.specs.Results.{Result, refused, value, refuse}
 use Rattle.forms.specs.Forms.{Listing}
 use Rattle.forms.specs.declared.Form.{Form}
 use Rattle.series.specs.declared.Terms.{Terms}
@@ -18,12 +18,13 @@ use Rattle.text_rules.specs.Names.{terms_line, terms_numbers, columns_in, positi
 use Rattle.text_rules.specs.Letters.{letter}
 use Rattle.text_rules.specs.Text.{MOST_BYTES, terms_row, write_terms, Optional, write_head, columns, writes_codes, written_columns}
 use Rattle.text_rules.specs.declared.TermsColumns.{TermsColumns}
-use Rattle.text_rules.specs.Calls.{evenly, line_count, head_and_lines, lines_into, write_into, length_of, WritingCall}
+use Rattle.text_rules.specs.Calls.{head_and_lines, lines_into, write_into, length_of, WritingCall}
 use Rattle.text_writing.specs.Parts.{Put}
-use Rattle.text_writing.specs.Columns.{Even}
+use Rattle.text_writing.specs.Columns.{columns_of, written}
+use Rattle.text_writing.specs.declared.table.Table.{Table}
 use Rattle.text_writing.specs.Tables.{tables_into, both_within}
-use Rattle.series.proofs.ResultLaws.{never, value_is, Stepped, stepped, not_refused}
-use Rattle.text_rules.proofs.LengthLaws.{length-head, head_room, LinesKnown, lines_known}
+use Rattle.series.proofs.ResultLaws.{never, not_refused}
+use Rattle.text_rules.proofs.LengthLaws.{length-head, head_room}
 use Rattle.text_rules.proofs.WritingLaws.{refused-writes}
 use Rattle.text_writing.proofs.PutLaws.{placed-onto, put_append}
 
@@ -53,12 +54,6 @@ put_head o f t old s1 s2 s3 new i1 i2 i3 n l row el er room p1 p2 p3 p4 =
 
 -- ---- what writing hands back, and the output that it leaves
 
--- a refusal that is handed back
-refused_is : (w : Result Text) (n : ℕ) → refused n ≡ length_of w → w ≡ refused n
-unfolding length_of
-refused_is (refused m) n e = let is : m ≡ n = cc in ap refused is
-refused_is (value s) n e = absurd (never n (length s) e)
-
 put_writes : (w : Result Text) (old s new : Text) (n : ℕ) → w ≡ value s → Put s old 0 new n → WritingCall w (value n) old new
 unfolding length_of
 put_writes w old s new n e p = rw e (record { answered = ap value (p.after ∙ zero-add (length s)); written = p.text ∙ placed-onto s old })
@@ -70,24 +65,9 @@ pub record Measured (head : Text) (cs : List (List ℕ)) (n : ℕ) : Type 0 wher
   pub is : head_and_lines head cs ≡ value (head ++ write_rows (rows_of cs))
   pub bytes : n ≡ length (head ++ write_rows (rows_of cs))
 
-module _ (head : Text) (cs : List (List ℕ)) (n : ℕ) (e : value n ≡ length_of (head_and_lines head cs)) where
-  found : Stepped Text ℕ (head_and_lines head cs) (λ s. value (length s)) n
-  unfolding length_of
-  found = stepped (head_and_lines head cs) (λ s. value (length s)) n (sym e)
-
-  known : LinesKnown head cs found.from
-  known = lines_known head cs found.from found.step
-
-  pub measured : Measured head cs n
-  measured = record { is = found.step ∙ ap value (sym known.text); bytes = sym (value_is found.on) ∙ ap length (sym known.text) }
-
--- columns whose lines are known are of one length, and not too long
-pub even_known : (head : Text) (cs : List (List ℕ)) (s : Text) → head_and_lines head cs ≡ value s → Even cs
-unfolding head_and_lines
-even_known head cs s e =
-    let uneven = not (evenly (line_count cs) cs) in
-    let one = stepped (refuse uneven 1 (head ++ write_rows (rows_of cs))) _ s e in
-    record { same = not-false (evenly (line_count cs) cs) (not_refused uneven 1 (head ++ write_rows (rows_of cs)) one.from one.step).0; few = (lines_known head cs s e).few }
+-- a table that was judged, and its length
+pub measured : {even t : Table} {n : ℕ} → (even ≡ t) × (value (written t) ≡ head_and_lines t.names.now (columns_of t)) → n ≡ length (written even) → Measured t.names.now (columns_of t) n
+measured told e = record { is = sym told.1; bytes = e ∙ ap (λ t. length (written t)) told.0 }
 
 -- ---- what writing a listing leaves
 
@@ -98,14 +78,11 @@ pub record OfListing (t : Listing) (head : Text) (cs : List (List ℕ)) : Type 0
 
 module _ (t : Listing) (head : Text) (cs : List (List ℕ)) (of : OfListing t head cs) (old : Text) (n : ℕ) where
   -- a refusal of the columns
-  pub text-refused : refused n ≡ length_of (head_and_lines head cs) → WritingCall (write_into t (length old)) (refused n) old old
+  pub text-refused : refused n ≡ head_and_lines head cs → WritingCall (write_into t (length old)) (refused n) old old
   unfolding write_into
-  text-refused e = refused-writes _ old n (rw (← of.head_is, ← of.columns_are, refused_is (head_and_lines head cs) n e))
+  text-refused e = refused-writes _ old n (rw (← of.head_is, ← of.columns_are, ← e))
 
-  module _ (e : value n ≡ length_of (head_and_lines head cs)) where
-    m : Measured head cs n
-    m = measured head cs n e
-
+  module _ (m : Measured head cs n) where
     -- the text would pass 32,768 bytes
     pub text-long : MOST_BYTES < n → WritingCall (write_into t (length old)) (refused 11) old old
     unfolding write_into
@@ -120,93 +97,59 @@ module _ (t : Listing) (head : Text) (cs : List (List ℕ)) (of : OfListing t he
       unfolding write_into
       text_put room new k p = put_writes _ old _ new k (rw (← of.head_is, ← of.columns_are, m.is, ← m.bytes, le-ltb MOST_BYTES n fits, ← m.bytes, le-ltb (length old) n room)) p
 
--- ---- two texts, one after the other
+-- ---- what writing tables leaves
 
--- to an output of length room: the refusal of the first, then of the second, then 4
-abbrev both_into : Result Text → Result Text → ℕ → Result Text
-both_into r q room = r >>= λ s. q >>= λ t. refuse (ltb room (length (s ++ t))) 4 (s ++ t)
+-- a head and its lines
+abbrev pub headed : Text → List (List ℕ) → Text
+headed head cs = head ++ write_rows (rows_of cs)
 
--- the two texts fit
-pub record Fitting (r q : Result Text) (s t : Text) (room : ℕ) : Type 0 where
-  pub first : r ≡ value s
-  pub second : q ≡ value t
-  pub fits : length s + length t ≤ room
-
-module _ (r q : Result Text) (room : ℕ) where
-  -- their length
-  both-length : both_within (length_of r) (length_of q) room ≡ length_of (both_into r q room)
-  unfolding length_of both_within
-  both-length = by_cases r q
-    where
-      length-refused : (b : Bool) (s : Text) → refuse b 4 (length s) ≡ (refuse b 4 s >>= λ u. value (length u))
-      length-refused true s = refl
-      length-refused false s = refl
-
-      by_cases : (r q : Result Text) → both_within (length_of r) (length_of q) room ≡ length_of (both_into r q room)
-      by_cases (refused n) q = refl
-      by_cases (value s) (refused n) = refl
-      by_cases (value s) (value t) = rw (← length-append s t) (length-refused (ltb room (length (s ++ t))) (s ++ t))
-
-  both-refused : (n : ℕ) → refused n ≡ both_within (length_of r) (length_of q) room → both_into r q room ≡ refused n
-  both-refused n e = refused_is (both_into r q room) n (e ∙ both-length)
-
-  -- a length that is handed back, of texts that are known to be s and t
-  both_fitting : (s t : Text) → ((x : Text) → r ≡ value x → s ≡ x) → ((x : Text) → q ≡ value x → t ≡ x) → (n : ℕ) → value n ≡ both_within (length_of r) (length_of q) room → Fitting r q s t room
-  unfolding length_of
-  both_fitting s t is-s is-t n e =
-      let all = stepped (both_into r q room) (λ u. value (length u)) n (sym (e ∙ both-length)) in
-      let one = stepped r _ all.from all.step in
-      let two = stepped q _ all.from one.on in
-      let s-is = is-s one.from one.step in
-      let t-is = is-t two.from two.step in
-      let within : length (one.from ++ two.from) ≤ room = ltb-false room (length (one.from ++ two.from)) (not_refused (ltb room (length (one.from ++ two.from))) 4 (one.from ++ two.from) all.from two.on).0 in
-      record {
-        first = one.step ∙ ap value (sym s-is);
-        second = two.step ∙ ap value (sym t-is);
-        fits = omega (arith, within, length-append one.from two.from, ap length s-is, ap length t-is);
-      }
-
--- a table alone is followed by nothing
-lines_alone : (head : Text) (cs : List (List ℕ)) (room : ℕ) → lines_into head cs room ≡ both_into (head_and_lines head cs) (value []) room
-unfolding lines_into
-lines_alone head cs room = simp append-nil
-
-module _ (head : Text) (cs : List (List ℕ)) where
-  -- a head and its lines
-  abbrev pub headed : Text
-  headed = head ++ write_rows (rows_of cs)
-
-  headed_is : (x : Text) → head_and_lines head cs ≡ value x → headed ≡ x
-  headed_is x e = (lines_known head cs x e).text
-
-  module _ (old : Text) (n : ℕ) where
-    pub table_refused : refused n ≡ both_within (length_of (head_and_lines head cs)) (value 0) (length old) → WritingCall (lines_into head cs (length old)) (refused n) old old
-    unfolding length_of
-    table_refused e = refused-writes _ old n (lines_alone head cs (length old) ∙ both-refused (head_and_lines head cs) (value []) (length old) n e)
-
-    pub table_fits : value n ≡ both_within (length_of (head_and_lines head cs)) (value 0) (length old) → Fitting (head_and_lines head cs) (value []) headed [] (length old)
-    unfolding length_of
-    table_fits e = both_fitting (head_and_lines head cs) (value []) (length old) headed [] headed_is (λ x is. value_is is) n e
-
-  pub table_put : (old new : Text) (k : ℕ) → Fitting (head_and_lines head cs) (value []) headed [] (length old) → Put headed old 0 new k → WritingCall (lines_into head cs (length old)) (value k) old new
+module _ (head : Text) (cs : List (List ℕ)) (old : Text) where
+  -- a refusal of the columns
+  pub table_refused : {n : ℕ} → refused n ≡ head_and_lines head cs → WritingCall (lines_into head cs (length old)) (refused n) old old
   unfolding lines_into
-  table_put old new k fit p = put_writes _ old headed new k (rw (fit.first, le-ltb (length old) (length headed) (omega (arith, fit.fits)))) p
+  table_refused {n} e = refused-writes _ old n (rw (← e))
+
+  module _ (is : value (headed head cs) ≡ head_and_lines head cs) where
+    pub table_short : length old < length (headed head cs) → WritingCall (lines_into head cs (length old)) (refused 4) old old
+    unfolding lines_into
+    table_short over = refused-writes _ old 4 (rw (← is, lt-ltb (length old) (length (headed head cs)) over))
+
+    pub table_put : length (headed head cs) ≤ length old → (new : Text) (k : ℕ) → Put (headed head cs) old 0 new k → WritingCall (lines_into head cs (length old)) (value k) old new
+    unfolding lines_into
+    table_put room new k p = put_writes _ old (headed head cs) new k (rw (← is, le-ltb (length old) (length (headed head cs)) room)) p
 
 module _ (head : Text) (cs : List (List ℕ)) (head2 : Text) (cs2 : List (List ℕ)) (old : Text) where
-  abbrev pub TablesFit : Type 0
-  TablesFit = Fitting (head_and_lines head cs) (head_and_lines head2 cs2) (headed head cs) (headed head2 cs2) (length old)
-
-  module _ (n : ℕ) where
-    pub tables_refused : refused n ≡ both_within (length_of (head_and_lines head cs)) (length_of (head_and_lines head2 cs2)) (length old) → WritingCall (tables_into head cs head2 cs2 (length old)) (refused n) old old
-    unfolding tables_into
-    tables_refused e = refused-writes _ old n (both-refused (head_and_lines head cs) (head_and_lines head2 cs2) (length old) n e)
-
-    pub tables_fit : value n ≡ both_within (length_of (head_and_lines head cs)) (length_of (head_and_lines head2 cs2)) (length old) → TablesFit
-    tables_fit e = both_fitting (head_and_lines head cs) (head_and_lines head2 cs2) (length old) (headed head cs) (headed head2 cs2) (headed_is head cs) (headed_is head2 cs2) n e
-
-  pub tables_put : (mid new : Text) (i k : ℕ) → TablesFit → Put (headed head cs) old 0 mid i → Put (headed head2 cs2) mid i new k → WritingCall (tables_into head cs head2 cs2 (length old)) (value k) old new
+  -- a refusal of the first table's columns
+  pub first_refused : {n : ℕ} → refused n ≡ head_and_lines head cs → WritingCall (tables_into head cs head2 cs2 (length old)) (refused n) old old
   unfolding tables_into
-  tables_put mid new i k fit p1 p2 =
-      let both : Text = headed head cs ++ headed head2 cs2 in
-      let room : length both ≤ length old = omega (arith, fit.fits, length-append (headed head cs) (headed head2 cs2)) in
-      put_writes _ old both new k (rw (fit.first, fit.second, le-ltb (length old) (length both) room)) (put_append (headed head cs) (headed head2 cs2) old 0 mid new i k (omega (arith, fit.fits)) p1 p2)
+  first_refused {n} e = refused-writes _ old n (rw (← e))
+
+  module _ (is : value (headed head cs) ≡ head_and_lines head cs) where
+    -- then one of the second table's
+    pub second_refused : {n : ℕ} → refused n ≡ head_and_lines head2 cs2 → WritingCall (tables_into head cs head2 cs2 (length old)) (refused n) old old
+    unfolding tables_into
+    second_refused {n} e = refused-writes _ old n (rw (← is, ← e))
+
+    module _ (is2 : value (headed head2 cs2) ≡ head_and_lines head2 cs2) where
+      abbrev both : Text
+      both = headed head cs ++ headed head2 cs2
+
+      -- then that of the room
+      pub tables_short : (n : ℕ) → refused n ≡ both_within (value (length (headed head cs))) (value (length (headed head2 cs2))) (length old) → WritingCall (tables_into head cs head2 cs2 (length old)) (refused n) old old
+      unfolding tables_into both_within
+      tables_short n e = refused-writes _ old n (rw (← is, ← is2, length-append) (go (ltb (length old) (length (headed head cs) + length (headed head2 cs2))) e))
+        where
+          go : (over : Bool) → refused n ≡ refuse over 4 (length (headed head cs) + length (headed head2 cs2)) → refuse over 4 both ≡ refused n
+          go true e = let four : 4 ≡ n = cc in ap refused four
+          go false e = absurd (never n _ e)
+
+      pub tables_put : length (headed head cs) + length (headed head2 cs2) ≤ length old → (mid new : Text) (i k : ℕ) → Put (headed head cs) old 0 mid i → Put (headed head2 cs2) mid i new k → WritingCall (tables_into head cs head2 cs2 (length old)) (value k) old new
+      unfolding tables_into
+      tables_put fits mid new i k p1 p2 =
+          let room : length both ≤ length old = omega (arith, fits, length-append (headed head cs) (headed head2 cs2)) in
+          put_writes _ old both new k (rw (← is, ← is2, le-ltb (length old) (length both) room)) (put_append (headed head cs) (headed head2 cs2) old 0 mid new i k (omega (arith, fits)) p1 p2)
+
+-- where two texts fit, there is room for both
+pub both_fit : (m n room k : ℕ) → value k ≡ both_within (value m) (value n) room → m + n ≤ room
+unfolding both_within
+both_fit m n room k e = ltb-false room (m + n) (not_refused (ltb room (m + n)) 4 (m + n) k (sym e)).0

@@ -1,5 +1,6 @@
 -- What writing answers and promises.
 pub mod Answers
 pub mod Columns
+pub mod Judged
 pub mod Parts
 pub mod Tables

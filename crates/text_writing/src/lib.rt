@@ -1,6 +1,7 @@
 // Writing texts: a series, one table or two, and a note.
 #![tactic(auto)]
 
+mod even_table;
 mod names;
 mod put;
 mod row;
@@ -15,20 +16,21 @@ ghost use Rattle.text_writing.specs.Parts.{Put};
 ghost use Rattle.text_writing.specs.Columns.{columns_of};
 ghost use Rattle.text_writing.specs.Tables.{tables_into};
 
-use forms::{Form, Listing};
+use forms::Listing;
 use put::put_line;
 use row::put_row;
 use series::{Refusal, Terms};
 pub use table::Table;
 use table::both_within;
+use text_rules::PositionColumns;
 use text_words::columns::{same_numbers, terms_columns};
 use text_words::letters::letter_of;
 use text_words::names::terms_numbers;
 
 // Puts lines 1 to 3 at the start of a head, and hands back their length.
-fn put_head(head: &mut [u8], form: Form, terms: Terms, coded: bool) -> usize
+fn put_head(head: &mut [u8], terms: Terms, positions: PositionColumns) -> usize
     requires { 86 ≤ length head.old }
-    ensures { Put (write_head (record { terms = terms_columns terms; coded = coded }) form terms) head.old 0 head.new result }
+    ensures { Put (write_head (record { terms = terms_columns terms; coded = positions.coded }) positions.form terms) head.old 0 head.new result }
 {
     let columns = terms_columns(terms);
     let line2 = names::put_terms_line(head, 0, columns);
@@ -36,23 +38,27 @@ fn put_head(head: &mut [u8], form: Form, terms: Terms, coded: bool) -> usize
     let numbers = put_line(head, line2, &letter);
     let row = [terms.exercised.0, terms.draw, terms.increment.0];
     let line3 = put_row(head, numbers, &row[..terms_numbers(columns)], b',', b'\n');
-    names::put_positions_line(head, line3, form, coded)
+    names::put_positions_line(head, line3, positions)
 }
 
 // Writes the text of a listing, without its codes where every code is its account, and without its increment where it is the one that is meant where none is given. A refusal writes nothing, and bytes past the text are kept.
 pub fn write(listing: &Listing, text: &mut [u8]) -> Result<usize, Refusal>
     ensures { WritingCall (write_into (listing_of listing.now) (length text.old)) (writing_of result) text.old text.new }
 {
-    let coded = !same_numbers(listing.codes, listing.accounts);
+    let positions = PositionColumns {
+        form: listing.form,
+        coded: !same_numbers(listing.codes, listing.accounts),
+    };
     let mut lines = [0; 86];
-    let n = put_head(&mut lines, listing.form, listing.terms, coded);
+    let n = put_head(&mut lines, listing.terms, positions);
     let columns = [listing.codes, listing.accounts, listing.numbers];
-    let left_out = usize::from(!coded);
+    let left_out = usize::from(!positions.coded);
     let table = Table {
         names: &lines[..n],
         columns: &columns[left_out..],
     };
-    let bytes = table.measure()?;
+    let table = table.judged()?;
+    let bytes = table.length();
     if bytes > 32768 {
         return Err(Refusal::TextTooLong);
     }
@@ -63,10 +69,14 @@ pub fn write(listing: &Listing, text: &mut [u8]) -> Result<usize, Refusal>
 }
 
 // Writes a table alone. A refusal writes nothing, and bytes past the table are kept.
+#[inline(always)]
 fn write_alone(table: &Table, text: &mut [u8]) -> Result<usize, Refusal>
     ensures { WritingCall (lines_into table.now.names.now (columns_of table.now) (length text.old)) (writing_of result) text.old text.new }
 {
-    both_within(table.measure(), Ok(0), text.len())?;
+    let table = table.judged()?;
+    if text.len() < table.length() {
+        return Err(Refusal::OutputTooShort);
+    }
     Ok(table.put(text, 0))
 }
 
@@ -92,7 +102,9 @@ pub fn write_table(
 pub fn write_tables(first: &Table, second: &Table, text: &mut [u8]) -> Result<usize, Refusal>
     ensures { WritingCall (tables_into first.now.names.now (columns_of first.now) second.now.names.now (columns_of second.now) (length text.old)) (writing_of result) text.old text.new }
 {
-    both_within(first.measure(), second.measure(), text.len())?;
+    let first = first.judged()?;
+    let second = second.judged()?;
+    both_within(first.length(), second.length(), text.len())?;
     let at = first.put(text, 0);
     Ok(second.put(text, at))
 }

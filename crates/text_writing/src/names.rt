@@ -1,11 +1,11 @@
 // Writing the names lines.
 ghost use Rattle.std.specs.Prelude.{◌+◌, ◌≤◌, length};
-ghost use Rattle.text_rules.specs.Names.{terms_line, code_name, form_name, columns_in, positions_line};
+ghost use Rattle.text_rules.specs.Names.{terms_line, code_name, form_name, positions_line};
 ghost use Rattle.text_writing.specs.Parts.{Put};
 
 use crate::put::put_line;
 use forms::Form;
-use text_rules::TermsColumns;
+use text_rules::{PositionColumns, TermsColumns};
 use text_words::names::{
     ACCOUNT_NAME, CODE_NAME, INCREMENT_NAMES, LAST_NAME, SHORT_NAME, TERMS_NAMES,
 };
@@ -47,11 +47,11 @@ fn put_form_name(text: &mut [u8], at: usize, form: Form) -> usize
 }
 
 // Puts line 3, name by name.
-pub fn put_positions_line(text: &mut [u8], at: usize, form: Form, coded: bool) -> usize
-    requires { at + length (positions_line (columns_in form coded)) ≤ length text.old }
-    ensures { Put (positions_line (columns_in form coded)) text.old at text.new result }
+pub fn put_positions_line(text: &mut [u8], at: usize, columns: PositionColumns) -> usize
+    requires { at + length (positions_line columns) ≤ length text.old }
+    ensures { Put (positions_line columns) text.old at text.new result }
 {
-    let account = put_code_name(text, at, coded);
+    let account = put_code_name(text, at, columns.coded);
     let last = put_line(text, account, &ACCOUNT_NAME);
-    put_form_name(text, last, form)
+    put_form_name(text, last, columns.form)
 }

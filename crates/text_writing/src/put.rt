@@ -15,7 +15,7 @@ pub fn put_line(text: &mut [u8], at: usize, line: &[u8]) -> usize
     end
 }
 
-// Puts a number, from its last digit to its first, and the byte that ends its field.
+// Puts a number, from its last digit to its first, and the byte that ends its field. No formatter: `io::decimal` puts the digits in an array of 20, from which they would be copied, a pass more.
 pub fn put_number(text: &mut [u8], at: usize, n: u32, end: u8) -> usize
     requires { at + length (write_number n end) ≤ length text.old }
     ensures { Put (write_number n end) text.old at text.new result }

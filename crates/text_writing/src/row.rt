@@ -12,11 +12,8 @@ pub fn row_length(row: &[u32]) -> usize
     requires { length row.now ≤ 1024 }
     ensures { RowLength row.now result }
 {
-    let mut sum = 0;
-    for &number in row {
-        sum += digits_of(number) + 1;
-    }
-    sum
+    let digits: usize = row.iter().map(|&number| digits_of(number)).sum();
+    digits + row.len()
 }
 
 // Puts a row, parted by one byte and ended by another. A table puts its rows from its columns: to gather each row first took a quarter more time.

@@ -5,8 +5,8 @@ use Rattle.activity.proofs.after_day.Goals as goal
 
 pub returns-in-Ordinary : goal.returns-in-Ordinary
 unfolding after_day
-returns-in-Ordinary c = c.ordinary_day.ensures ∙ ap (λ d. after_day d c.args.investor) (sym c.in-Ordinary.is)
+returns-in-Ordinary c = c.ordinary_day.ensures ∙ ap (λ d. after_day d c.args.counted.investor) (sym c.in-Ordinary.is)
 
 pub returns-in-Final : goal.returns-in-Final
 unfolding after_day
-returns-in-Final c = c.final_day.ensures ∙ ap (λ d. after_day d c.args.investor) (sym c.in-Final.is)
+returns-in-Final c = c.final_day.ensures ∙ ap (λ d. after_day d c.args.counted.investor) (sym c.in-Final.is)

@@ -7,14 +7,11 @@ use Rattle.activity.proofs.process_investor.Goals as goal
 pub returns-then-investor_above : goal.returns-then-investor_above
 returns-then-investor_above c = refused_count _ _ _ c.investor_above.ensures c.if-investor_above.true
 
-pub closes_above_short-requires : goal.closes_above_short-requires
-closes_above_short-requires c = counted _ (sym c.investor_above.ensures ∙ c.if-investor_above.false)
+pub invariant_of-counted : goal.invariant_of-counted
+invariant_of-counted c = record { counted = counted _ (sym c.investor_above.ensures ∙ c.if-investor_above.false) }
 
 pub returns-then-closes_above_short : goal.returns-then-closes_above_short
 returns-then-closes_above_short c = refused_closing _ _ _ c.investor_above.ensures c.if-investor_above.false _ c.closes_above_short.ensures c.if-closes_above_short.true
-
-pub after_day-after-requires : goal.after_day-after-requires
-after_day-after-requires c = counted _ (sym c.investor_above.ensures ∙ c.if-investor_above.false)
 
 pub returns-then-after-investor : goal.returns-then-after-investor
 returns-then-after-investor c = refused-exercised _ _ _ c.investor_above.ensures c.if-investor_above.false _ c.closes_above_short.ensures c.if-closes_above_short.false _ c.after_day-after.ensures c.if-after-investor.true

@@ -1,4 +1,6 @@
 -- `print` meets its contract: the table that is written is what is printed for the allocation.
+use mathlib.Core.Path.{sym, ◌∙◌}
+use native.Mathlib.Omega.{arith}
 use lib.ListN.{length}
 use Rattle.series.specs.Ascii.{ascii}
 use Rattle.responses.specs.Printed.{assigned_lines}
@@ -8,4 +10,6 @@ use Rattle.assignment_text.proofs.print.Goals as goal
 
 pub returns : goal.returns
 unfolding ascii
-returns c = allocation_printed (assigned_lines c.args.accounts.now c.args.amounts.now) c.args.output.now _ c.answer_written.result _ (rw (table_is c.args.accounts.now c.args.amounts.now (length c.args.output.now) c.requires.0 c.requires.1) at c.write_table.ensures) c.answer_written.ensures
+returns c =
+    let lists = c.args.allocation.now.lists in
+    allocation_printed (assigned_lines c.args.allocation.now.accounts.now c.args.allocation.now.amounts.now) c.args.output.now _ c.answer_written.result _ (rw (table_is c.args.allocation.now.accounts.now c.args.allocation.now.amounts.now (length c.args.output.now) (lists.same ∙ sym lists.beside) (omega (arith, lists.same, lists.few))) at c.write_table.ensures) c.answer_written.ensures

@@ -9,4 +9,4 @@ unfolding ranges_by
 returns-in-RemainderDraw c = rw c.in-RemainderDraw.is c.print_with_ranges.ensures
 
 pub returns-in_default : goal.returns-in_default
-returns-in_default c = let positions = c.args.series.now.positions in rw (none_ranged c.args.series.now.terms.method c.in_default.not-RemainderDraw positions.accounts.now positions.shorts.now, append-nil) c.print.ensures
+returns-in_default c = let a = c.args.allocation.now in rw (none_ranged c.args.method c.in_default.not-RemainderDraw a.accounts.now a.shorts.now, append-nil) c.print.ensures

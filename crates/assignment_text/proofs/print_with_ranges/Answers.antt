@@ -10,7 +10,7 @@ use Rattle.assignment_text.proofs.print_with_ranges.Goals as goal
 pub returns : goal.returns
 unfolding ascii
 returns c =
-    let accounts = c.args.accounts.now in
-    let tables = tables_are accounts c.args.shorts.now c.args.amounts.now (length c.args.output.now) c.requires.0 in
-    allocation_printed (assigned_lines accounts c.args.amounts.now ++ range_lines accounts c.args.shorts.now) c.args.output.now _ c.answer_written.result _
+    let accounts = c.args.allocation.now.accounts.now in
+    let tables = tables_are accounts c.args.allocation.now.shorts.now c.args.allocation.now.amounts.now (length c.args.output.now) c.args.allocation.now.lists in
+    allocation_printed (assigned_lines accounts c.args.allocation.now.amounts.now ++ range_lines accounts c.args.allocation.now.shorts.now) c.args.output.now _ c.answer_written.result _
     (rw (c.fill.ensures accounts, tables) at c.write_tables.ensures) c.answer_written.ensures

@@ -1,11 +1,10 @@
 -- `change` meets its contract: what reading gives is changed, and a refusal of either stands.
-use mathlib.Core.Path.{◌≡◌, sym, ◌∙◌}
+use mathlib.Core.Path.{sym, ◌∙◌}
 use native.Mathlib.Omega.{arith}
 use lib.ListN.{length}
 use lib.Seq.{length-take-le}
-use Rattle.std.specs.Prelude.{Err}
-use Rattle.std.proofs.lemmas.Grind.{common_steps}
 use Rattle.series.specs.Answers.{number_of}
+use Rattle.series.proofs.ResultLaws.{refusal_met}
 use Rattle.text_rules.specs.Calls.{change_into}
 use Rattle.text_rules.proofs.ReadingLaws.{read_refused}
 use Rattle.text_rules.proofs.WritingLaws.{refused-writes}
@@ -47,9 +46,8 @@ change_list-requires c = let l = (listing (goal.at.change_list-requires c).In_ok
 
 pub returns-in_err-read : goal.returns-in_err-read
 returns-in_err-read c =
-    let is : c.from_residual.result ≡ Err c.in_err-read.field-0.0 = grind (arith, common_steps) in
     let refusal = text-refused c.args.text.now (length c.args.output.now) (number_of c.in_err-read.field-0.0) (read_refused _ _ _ _ (omega arith) (omega arith) (omega arith) _ c.in_err-read.ensures) in
-    rw is (refused-writes (change_into c.args.text.now (length c.args.output.now)) c.args.output.now _ refusal)
+    rw (refusal_met c.from_residual.result _ c.from_residual.ensures.1) (refused-writes (change_into c.args.text.now (length c.args.output.now)) c.args.output.now _ refusal)
 
 pub returns : goal.returns
 returns c = written-text c.args.text.now _ _ c.args.output.now _ (listing (goal.at.returns c).In_ok-read).reads c.change_list.ensures

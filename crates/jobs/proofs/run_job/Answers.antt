@@ -7,4 +7,4 @@ use Rattle.jobs.proofs.run_job.Goals as goal
 pub returns : goal.returns
 returns c =
     let positions = c.args.job.first + c.args.job.positions - c.args.job.first in
-    on-stretch c.args.job c.args.accounts.now c.args.shorts.now c.args.amounts.now _ c.recorded.result positions (omega arith) (c.recorded.ensures _ c.call_job-outcome.ensures.answered) c.call_job-outcome.ensures.written
+    on-stretch c.args.job c.args.list.now.accounts.now c.args.list.now.shorts.now c.args.amounts.now _ c.recorded.result positions (omega arith) (c.recorded.ensures _ c.call_job-outcome.ensures.answered) c.call_job-outcome.ensures.written

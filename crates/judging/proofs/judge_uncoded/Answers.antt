@@ -1,17 +1,20 @@
 -- `judge_uncoded` meets its contract: the list's rows, and then those of what is exercised and of the draw.
 use mathlib.Core.Path.{refl, ◌∙◌}
-use Rattle.std.proofs.lemmas.Result.{err_from_is_err_and}
-use Rattle.series.specs.Series.{Series}
-use Rattle.judging.proofs.TableLaws.{by_account, judged_parts}
+use Rattle.series.proofs.ResultLaws.{refusal_met}
+use Rattle.series.specs.Answers.{series_on, coded_by_account}
+use Rattle.judging.proofs.TableLaws.{by_account, judged_parts, list_facts, list_of}
 use Rattle.judging.proofs.judge_uncoded.Goals as goal
 
-pub returns-in_err-total : goal.returns-in_err-total
-returns-in_err-total c =
-    let p = err_from_is_err_and c.from_residual.result c.from_residual.ensures.1 in
-    let s : Series = record { terms = c.args.terms; codes = c.args.accounts.now; accounts = c.args.accounts.now; shorts = c.args.shorts.now } in
-    rw (p.1, p.2) (judged_parts s c.args.room _ _ (c.in_err-total.ensures c.args.terms.method ∙ by_account _ _ _ _) refl)
+pub returns-in_err-total-clause-judged : goal.returns-in_err-total-clause-judged
+returns-in_err-total-clause-judged c =
+    rw (refusal_met c.from_residual.result _ c.from_residual.ensures.1) (judged_parts (series_on c.args.terms (coded_by_account c.args.list.now)) c.args.room _ _ (c.in_err-total.ensures c.args.terms.method ∙ by_account _ _ _ _) refl)
 
-pub returns : goal.returns
-returns c =
-    let s : Series = record { terms = c.args.terms; codes = c.args.accounts.now; accounts = c.args.accounts.now; shorts = c.args.shorts.now } in
-    judged_parts s c.args.room _ _ (c.in_ok-total.ensures c.args.terms.method ∙ by_account _ _ _ _) c.judge_terms.ensures
+pub invariant_of-call : goal.invariant_of-call
+invariant_of-call c = let list = list_facts _ _ _ _ _ _ (c.in_ok-total.ensures c.args.terms.method) in record { few = list.few; sum = list.sum; small = list.small }
+
+pub returns-clause-judged : goal.returns-clause-judged
+returns-clause-judged c =
+    judged_parts (series_on c.args.terms (coded_by_account c.args.list.now)) c.args.room _ _ (c.in_ok-total.ensures c.args.terms.method ∙ by_account _ _ _ _) c.judge_terms.ensures.judged
+
+pub returns-clause-list : goal.returns-clause-list
+returns-clause-list c = list_of _ _ _ _ (list_facts _ _ _ _ _ _ (c.in_ok-total.ensures c.args.terms.method)).fits c.judge_terms.ensures.list

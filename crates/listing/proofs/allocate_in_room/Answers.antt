@@ -13,4 +13,4 @@ pub returns : goal.returns
 returns g c =
     let long = length-take-le _ _ (rw length-replicate c.requires.fits) in
     let shorts = fill_whole c.args.listing.now.numbers.now _ _ long c.fill_shorts.ensures in
-    called_by_differences (listing_of c.args.listing.now) _ c.args.amounts.now _ _ _ c.requires.form shorts (in_form_is allocation_of Form.LastNumbers _ _ c.in_form.ensures) (rw c.series.ensures at c.allocate-answer.ensures)
+    called_by_differences (listing_of c.args.listing.now) _ c.args.amounts.now _ _ _ shorts (in_form_is allocation_of Form.LastNumbers _ _ c.in_form.ensures) (rw c.series.ensures at c.allocate-answer.ensures)

@@ -1,7 +1,6 @@
--- `copy` meets its contract. The loop's invariant: the elements passed are the source's.
-use Rattle.std.proofs.Common.{◌≡◌}
-use Rattle.std.specs.Prelude.{length, take}
+-- `copy` meets its contract. The loop's invariant: the elements passed are the source's, and those from there on are kept.
+use Rattle.std.proofs.Common.{◌≡◌, ◌++◌, take, drop}
 use Rattle.lists.proofs.copy.Given as goal
 
 abbrev pub invariant-loop-i : goal.invariant-loop-i
-invariant-loop-i g l = (take l.i l.target ≡ take l.i l.source) × (length l.target ≡ length l.source)
+invariant-loop-i g l = l.target ≡ take l.i l.source ++ drop l.i l.fn.target

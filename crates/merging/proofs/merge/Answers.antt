@@ -1,7 +1,7 @@
 -- `merge` meets its contract: a refusal of one of the lists stands, else the judged lists are merged.
 use mathlib.Core.Path.{sym, subst}
 use lib.ListN.{length}
-use Rattle.std.proofs.lemmas.Result.{err_from_is_err_and}
+use Rattle.series.proofs.ResultLaws.{refusal_met}
 use Rattle.series.specs.Outputs.{lent}
 use Rattle.merging.specs.Merging.{account_list_of, merging_of, Merges}
 use Rattle.merging.proofs.CallLaws.{merges_refused, call_refused, call_judged, both_bounded}
@@ -9,8 +9,7 @@ use Rattle.merging.proofs.merge.Goals as goal
 
 pub returns-in_err-total : goal.returns-in_err-total
 returns-in_err-total c =
-    let p = err_from_is_err_and c.from_residual.result c.from_residual.ensures.1 in
-    rw (p.1, p.2) (merges_refused _ _ c.args.accounts.now c.args.shorts.now (call_refused (account_list_of c.args.first.now) (account_list_of c.args.second.now) (length c.args.accounts.now) (length c.args.shorts.now) _ (sym c.in_err-total.ensures)))
+    rw (refusal_met c.from_residual.result _ c.from_residual.ensures.1) (merges_refused _ _ c.args.accounts.now c.args.shorts.now (call_refused (account_list_of c.args.first.now) (account_list_of c.args.second.now) (length c.args.accounts.now) (length c.args.shorts.now) _ (sym c.in_err-total.ensures)))
 
 pub merge_judged-requires : goal.merge_judged-requires
 merge_judged-requires c = both_bounded (account_list_of c.args.first.now) (account_list_of c.args.second.now) _ (sym c.in_ok-total.ensures)

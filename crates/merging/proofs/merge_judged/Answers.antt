@@ -1,6 +1,6 @@
 -- The merged list is counted and judged, and written where nothing refuses it.
 use Rattle.std.proofs.Common.{◌≡◌, ℕ, List, length, sym, subst, ◌∙◌}
-use Rattle.std.proofs.lemmas.Result.{err_from_is_err_and}
+use Rattle.series.proofs.ResultLaws.{refusal_met}
 use Rattle.series.specs.Results.{Result, value}
 use Rattle.series.specs.Outputs.{lent}
 use Rattle.series.specs.Places.{total}
@@ -30,9 +30,8 @@ module _ {one two : PositionList} {T : ℕ} (b : BothBounded one two T) (account
 
 pub returns-in_err-merged : goal.returns-in_err-merged
 returns-in_err-merged c =
-    let p = err_from_is_err_and c.from_residual.result c.from_residual.ensures.1 in
     let is = answered c.requires (length c.args.accounts.now) (length c.args.shorts.now) _ c.count_merged-positions.ensures _ c.in_err-merged.ensures in
-    rw (p.1, p.2) (record { answered = is; written = refused_kept _ _ c.args.accounts.now c.args.shorts.now (sym is) })
+    rw (refusal_met c.from_residual.result _ c.from_residual.ensures.1) (record { answered = is; written = refused_kept _ _ c.args.accounts.now c.args.shorts.now (sym is) })
 
 pub write_merged-requires : goal.write_merged-requires
 write_merged-requires c =

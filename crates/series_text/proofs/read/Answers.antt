@@ -1,11 +1,7 @@
 -- `read` meets its contract: the answers of its parts are those of the definition, and the lists are filled last.
-use mathlib.Core.Path.{◌≡◌, ap}
-use mathlib.Core.List.{◌++◌}
-use native.Mathlib.Omega.{arith}
-use lib.ListN.{drop}
-use Rattle.std.specs.Prelude.{Err}
 use Rattle.std.proofs.Common.{inl, inr}
-use Rattle.std.proofs.lemmas.Grind.{common_steps}
+use Rattle.series.proofs.ResultLaws.{refusal_met}
+use Rattle.lists.proofs.CopyLaws.{copied_first}
 use Rattle.text_rules.proofs.ReadLaws.{PositionsRead, head_refused, positions_fault, codes-short, accounts-short, numbers-short, read_all}
 use Rattle.series_text.proofs.read.Goals as goal
 use Rattle.series_text.proofs.read.Goals.{In_ok-n}
@@ -17,13 +13,11 @@ positions c = let within = c.in_ok-n.ensures.within in record { reads = c.in_ok-
 
 pub returns-in_err-head : goal.returns-in_err-head
 returns-in_err-head c =
-    let is : c.from_residual.result ≡ Err c.in_err-head.field-0.0 = grind (arith, common_steps) in
-    rw is (head_refused c.args.text.now c.args.codes.now c.args.accounts.now c.args.numbers.now c.in_err-head.ensures)
+    rw (refusal_met c.from_residual.result _ c.from_residual.ensures.1) (head_refused c.args.text.now c.args.codes.now c.args.accounts.now c.args.numbers.now c.in_err-head.ensures)
 
 pub returns-in_err-n : goal.returns-in_err-n
 returns-in_err-n c =
-    let is : c.from_residual-in_err-n.result ≡ Err c.in_err-n.field-0.0 = grind (arith, common_steps) in
-    rw is (positions_fault c.args.text.now c.args.codes.now c.args.accounts.now c.args.numbers.now c.in_ok-head.ensures (c.in_err-n.ensures.means _ _))
+    rw (refusal_met c.from_residual-in_err-n.result _ c.from_residual-in_err-n.ensures.1) (positions_fault c.args.text.now c.args.codes.now c.args.accounts.now c.args.numbers.now c.in_ok-head.ensures (c.in_err-n.ensures.means _ _))
 
 pub returns-then-codes-n : goal.returns-then-codes-n
 returns-then-codes-n c =
@@ -38,6 +32,6 @@ pub returns : goal.returns
 returns c =
     let p = positions (goal.at.returns c).In_ok-n in
     read_all c.args.text.now c.args.codes.now c.args.accounts.now c.args.numbers.now c.in_ok-head.ensures p c.if-codes-n.false c.if-accounts-n.false c.if-numbers-n.false
-    (ap (λ l. l ++ drop c.in_ok-n.n c.args.codes.now) c.copy_from_slice.ensures.after)
-    (ap (λ l. l ++ drop c.in_ok-n.n c.args.accounts.now) c.copy_from_slice-2.ensures.after)
-    (ap (λ l. l ++ drop c.in_ok-n.n c.args.numbers.now) c.copy_from_slice-3.ensures.after)
+    (copied_first _ _ _ c.in_ok-n.n p.in_codes c.if-codes-n.false c.copy.ensures)
+    (copied_first _ _ _ c.in_ok-n.n p.in_accounts c.if-accounts-n.false c.copy-2.ensures)
+    (copied_first _ _ _ c.in_ok-n.n p.in_numbers c.if-numbers-n.false c.copy-3.ensures)

@@ -5,6 +5,7 @@ use Rattle.std.specs.Prelude.{Err}
 use Rattle.std.proofs.lemmas.Grind.{common_steps}
 use Rattle.series.specs.Results.{value}
 use Rattle.series.specs.declared.Refusal.{Refusal}
+use Rattle.series.proofs.ResultLaws.{refusal_met}
 use Rattle.text_rules.specs.Names.{terms_line, terms_numbers, line1, read_names}
 use Rattle.text_rules.specs.Text.{read_terms}
 use Rattle.text_head.proofs.HeadLaws.{head_long, head_names, head_terms, head_columns, head_all}
@@ -31,8 +32,7 @@ returns-in_err-names c =
 pub returns-in_err-terms : goal.returns-in_err-terms
 returns-in_err-terms c =
     let p = goal.at.returns-in_err-terms c in
-    let is : c.from_residual-in_err-terms.result ≡ Err c.in_err-terms.field-0.0 = grind (arith, common_steps) in
-    rw is (head_terms _ c.if-text-gt32768.false (names p.In_ok-names) (rw c.terms_numbers.ensures at c.in_err-terms.ensures))
+    rw (refusal_met c.from_residual-in_err-terms.result _ c.from_residual-in_err-terms.ensures.1) (head_terms _ c.if-text-gt32768.false (names p.In_ok-names) (rw c.terms_numbers.ensures at c.in_err-terms.ensures))
 
 pub returns-in_err-columns : goal.returns-in_err-columns
 returns-in_err-columns c =

@@ -7,18 +7,15 @@ use native.Mathlib.Omega.{arith}
 use lib.ListN.{length, take, drop}
 use lib.Seq.{length-take-le}
 use mir.Val.{bool_byte}
-use Rattle.std.proofs.Common.{rules}
-use Rattle.series.specs.Results.{refused}
-use Rattle.series.specs.Answers.{number_of}
+use Rattle.series.proofs.ResultLaws.{refusal_met}
 use Rattle.forms.specs.Forms.{listing_of}
 use Rattle.forms.specs.declared.Listing.{Listing}
 use Rattle.text_rules.specs.Text.{write_head, columns, writes_codes, written_columns, terms_columns, same_numbers}
 use Rattle.text_rules.proofs.LengthLaws.{head_room}
-use Rattle.text_writing.specs.Answers.{writing_of}
 use Rattle.text_writing.specs.Parts.{Put}
 use Rattle.text_writing.proofs.PutLaws.{put_taken}
 use Rattle.text_writing.proofs.TableLaws.{behind}
-use Rattle.text_writing.proofs.WriteLaws.{OfListing, even_known, measured, text-refused, text-long, text-short, text_put}
+use Rattle.text_writing.proofs.WriteLaws.{OfListing, measured, text-refused, text-long, text-short, text_put}
 use Rattle.text_writing.proofs.write.Goals as goal
 
 -- the columns that are shown where the first k are left out
@@ -49,29 +46,23 @@ slice_bounds-lines-end c = omega (arith, head_within c.args.listing.now _ c.put_
 pub slice_bounds-table-end : goal.slice_bounds-table-end
 slice_bounds-table-end c = sym (length-take-le _ _ (omega (arith, head_within c.args.listing.now _ c.put_head-n.ensures (omega arith))))
 
-pub returns-in_err-bytes : goal.returns-in_err-bytes
-returns-in_err-bytes c =
+pub returns-in_err-table : goal.returns-in_err-table
+returns-in_err-table c =
     let l = c.args.listing.now in
-    let err : writing_of c.from_residual.result ≡ refused (number_of c.in_err-bytes.field-0.0) = search rules in
-    rw err (text-refused (listing_of l) _ _ (of_listing l c.put_head-n.ensures c.from-left_out.ensures c.same_numbers-coded.ensures) c.args.text.now _ c.in_err-bytes.ensures)
+    rw (refusal_met c.from_residual.result _ c.from_residual.ensures.1) (text-refused (listing_of l) _ _ (of_listing l c.put_head-n.ensures c.from-left_out.ensures c.same_numbers.ensures) c.args.text.now _ c.in_err-table.ensures)
 
 pub returns-then-bytes-gt32768 : goal.returns-then-bytes-gt32768
 returns-then-bytes-gt32768 c =
     let l = c.args.listing.now in
-    text-long (listing_of l) _ _ (of_listing l c.put_head-n.ensures c.from-left_out.ensures c.same_numbers-coded.ensures) c.args.text.now _ c.in_ok-bytes.ensures c.if-bytes-gt32768.true
+    text-long (listing_of l) _ _ (of_listing l c.put_head-n.ensures c.from-left_out.ensures c.same_numbers.ensures) c.args.text.now _ (measured c.in_ok-table.ensures c.length-bytes.ensures) c.if-bytes-gt32768.true
 
 pub returns-then-text-bytes : goal.returns-then-text-bytes
 returns-then-text-bytes c =
     let l = c.args.listing.now in
-    text-short (listing_of l) _ _ (of_listing l c.put_head-n.ensures c.from-left_out.ensures c.same_numbers-coded.ensures) c.args.text.now _ c.in_ok-bytes.ensures c.if-bytes-gt32768.false c.if-text-bytes.true
-
-pub put-requires-clause-even : goal.put-requires-clause-even
-put-requires-clause-even c = even_known _ _ _ (measured _ _ _ c.in_ok-bytes.ensures).is
-
-pub put-requires-clause-table_in_bounds : goal.put-requires-clause-table_in_bounds
-put-requires-clause-table_in_bounds c = omega (arith, (measured _ _ _ c.in_ok-bytes.ensures).bytes, c.if-text-bytes.false)
+    text-short (listing_of l) _ _ (of_listing l c.put_head-n.ensures c.from-left_out.ensures c.same_numbers.ensures) c.args.text.now _ (measured c.in_ok-table.ensures c.length-bytes.ensures) c.if-bytes-gt32768.false c.if-text-bytes.true
 
 pub returns : goal.returns
 returns c =
     let l = c.args.listing.now in
-    text_put (listing_of l) _ _ (of_listing l c.put_head-n.ensures c.from-left_out.ensures c.same_numbers-coded.ensures) c.args.text.now _ c.in_ok-bytes.ensures c.if-bytes-gt32768.false c.if-text-bytes.false _ _ c.put.ensures
+    let put = rw c.in_ok-table.ensures.0 at c.put.ensures in
+    text_put (listing_of l) _ _ (of_listing l c.put_head-n.ensures c.from-left_out.ensures c.same_numbers.ensures) c.args.text.now _ (measured c.in_ok-table.ensures c.length-bytes.ensures) c.if-bytes-gt32768.false c.if-text-bytes.false _ _ put

@@ -1,13 +1,14 @@
 -- `lottery::assign_by_draw` meets its contract: whole, one position, or one run from the starting place.
 use Rattle.std.proofs.Common.{sym, ◌∙◌, arith}
 use Rattle.std.proofs.lemmas.Bool.{eqb-true, eqb-false}
+use Rattle.lists.proofs.CopyLaws.{copied_whole}
 use Rattle.starts.proofs.StartLaws.{place-on}
 use Rattle.allocation.proofs.AllocateLaws.{place_needed, place_start, place-amounts, whole_start, whole-amounts, one_start, one-amounts}
 use Rattle.allocation.proofs.lottery.assign_by_draw.Goals as goal
 
 pub returns-then-eq : goal.returns-then-eq
 returns-then-eq c = let whole = eqb-true _ _ (sym c.if-eq.ensures) in
-    record { result_value = whole_start _ _ _ _ c.args.list.now.sum whole; amounts_after = c.copy.ensures.after ∙ whole-amounts _ _ _ _ c.args.list.now.sum whole }
+    record { result_value = whole_start _ _ _ _ c.args.list.now.sum whole; amounts_after = copied_whole _ _ _ c.requires.room c.copy.ensures ∙ whole-amounts _ _ _ _ c.args.list.now.sum whole }
 
 pub returns-then-shorts-eq1 : goal.returns-then-shorts-eq1
 returns-then-shorts-eq1 c = let part = eqb-false _ _ (sym c.if-eq.ensures) in

@@ -13,7 +13,7 @@ assign-wheel-requires c = record {
 }
 
 pub skip-wheel-requires : goal.skip-wheel-requires
-skip-wheel-requires c = record { on = c.assign-wheel.ensures.stands.on; carried = c.loop-block.invariant.ready.carried; short = c.loop-block.invariant.ready.short; reserve = c.loop-block.invariant.ready.reserve; list = c.loop-block.invariant.ready.list }
+skip-wheel-requires c = record { on = c.assign-wheel.ensures.stands.on; short = c.loop-block.invariant.ready.short; reserve = c.loop-block.invariant.ready.reserve; list = c.loop-block.invariant.ready.list }
 
 pub loop-block-preserved : goal.loop-block-preserved
 loop-block-preserved c = block_next _ _ _ _ _ _ _ c.assign-wheel.result _ _ _ _ c.loop-block.invariant c.loop-block-test.true c.assign-wheel.ensures.stands c.assign-wheel.ensures.assigned c.skip-wheel.ensures

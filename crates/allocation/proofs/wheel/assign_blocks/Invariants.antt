@@ -4,4 +4,4 @@ use Rattle.allocation.proofs.BlockLaws.{AtBlock}
 use Rattle.allocation.proofs.wheel.assign_blocks.Given as goal
 
 abbrev pub invariant-loop-block : goal.invariant-loop-block
-invariant-loop-block l = AtBlock l.shorts l.initial.amounts l.amounts (marks_from l.shorts l.fn.wheel l.blocks l.increment.0 l.last.0) l.wheel l._block l.blocks l.increment.0 l.last.0
+invariant-loop-block l = AtBlock l.shorts l.initial.amounts l.amounts (marks_from l.shorts l.fn.wheel l.blocks.number l.blocks.increment.0 l.blocks.last.0) l.wheel l._block l.blocks.number l.blocks.increment.0 l.blocks.last.0

@@ -2,12 +2,13 @@
 use Prim.Native.Nat.{◌+◌}
 use mathlib.Core.Path.{◌≡◌, sym, ap, ◌∙◌}
 use native.Mathlib.Omega.{arith}
+use native.Mathlib.Nat.{mod-lt}
 use lib.ListN.{length}
 use Rattle.series.specs.ProRata.{round_two}
 use Rattle.series.proofs.ProRataLaws.{unserved}
 use Rattle.pro_rata.specs.Rounds.{at, cut_off_of}
 use Rattle.series.proofs.ListLaws.{listed_elements}
-use Rattle.pro_rata.proofs.RoundTwoLaws.{is_cut_off, is_none, larger_lt, tied-some, servable, service}
+use Rattle.pro_rata.proofs.RoundTwoLaws.{is_cut_off, is_none, larger_lt, tied-some, tied-few, serves, service}
 use Rattle.pro_rata.proofs.rounds.round_two.Goals as goal
 
 pub returns-in_default : goal.returns-in_default
@@ -21,8 +22,11 @@ nonzero_rem-round c = tied-some c.requires.0 (is_cut_off c.requires.0 c.in-Some.
 pub overflow_sub-round : goal.overflow_sub-round
 overflow_sub-round c = omega (arith, larger_lt c.requires.0 (is_cut_off c.requires.0 c.in-Some.ensures))
 
+pub invariant_of-round : goal.invariant_of-round
+invariant_of-round c = let cut = is_cut_off c.requires.0 c.in-Some.ensures in record { few = tied-few c.requires.0 cut; begins = mod-lt _ (tied-some c.requires.0 cut); serves = serves c.requires.0 cut }
+
 pub serve-requires : goal.serve-requires
-serve-requires c = servable c.requires.0 (is_cut_off c.requires.0 c.in-Some.ensures) c.args.amounts.now c.requires.1 c.args.draw
+serve-requires c = record { room = c.requires.1; tied = (is_cut_off c.requires.0 c.in-Some.ensures).tied_are }
 
 pub returns : goal.returns
 returns c = c.serve.ensures ∙ service c.requires.0 (is_cut_off c.requires.0 c.in-Some.ensures) c.args.draw c.args.amounts.now c.requires.1.beside

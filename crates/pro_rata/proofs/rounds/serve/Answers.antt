@@ -20,7 +20,7 @@ loop-i-init c = (refl, fill_none _ _)
 
 pub contract-requires : goal.contract-requires
 contract-requires c = let d = at c.args.parts.now in
-    (c.requires.serving, λ e. omega (arith, c.requires.tied, c.loop-i.invariant.0, equal-before d c.args.round.cut _ c.loop-i.i c.loop-i-test.true e))
+    λ e. omega (arith, c.requires.tied, c.loop-i.invariant.0, equal-before d c.args.round.cut _ c.loop-i.i c.loop-i-test.true e)
 
 pub bounds-amounts-i : goal.bounds-amounts-i
 bounds-amounts-i c = omega (arith, fill_length _ _ _ _ c.loop-i.invariant.1 (omega arith))

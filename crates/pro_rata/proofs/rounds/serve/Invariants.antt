@@ -5,7 +5,7 @@ use mathlib.Core.List.{List}
 use Rattle.series.specs.ProRata.{equal}
 use Rattle.series.specs.CutOff.{by_cut_off}
 use Rattle.pro_rata.specs.Rounds.{at}
-use Rattle.pro_rata.specs.declared.rounds.RoundTwo.{RoundTwo}
+use Rattle.pro_rata.specs.declared.round_two.RoundTwo.{RoundTwo}
 use Rattle.series.proofs.ListLaws.{filled}
 use Rattle.pro_rata.proofs.rounds.serve.Given as goal
 

@@ -1,5 +1,4 @@
 -- `lines::read_positions` meets its contract. The loop's invariant: the rows read stand first in the three lists, and the text goes on with the rest.
-use Prim.Native.Nat.{◌≤◌, ◌-◌}
 use mathlib.Core.Path.{◌≡◌}
 use mathlib.Core.List.{[], ◌∷◌}
 use lib.ListN.{length, take}
@@ -8,9 +7,6 @@ use Rattle.text_rules.specs.Text.{MOST_LINES}
 use Rattle.series_text.proofs.LineLaws.{RowsTo}
 use Rattle.series_text.proofs.lines.read_positions.Given as goal
 
-abbrev pub invariant-loop-rest : goal.invariant-loop-rest
-invariant-loop-rest l = (length l.lists.codes ≡ MOST_LINES) × (length l.lists.accounts ≡ MOST_LINES) × (length l.lists.numbers ≡ MOST_LINES) × (l.n ≤ MOST_LINES)
+abbrev pub invariant-loop-n : goal.invariant-loop-n
+invariant-loop-n l = (length l.lists.codes ≡ MOST_LINES) × (length l.lists.accounts ≡ MOST_LINES) × (length l.lists.numbers ≡ MOST_LINES)
     × RowsTo MOST_LINES l.coded l.text (rows_of (take l.n l.lists.codes ∷ take l.n l.lists.accounts ∷ take l.n l.lists.numbers ∷ [])) l.rest l.n
-
-abbrev pub decreases-loop-rest : goal.decreases-loop-rest
-decreases-loop-rest l = MOST_LINES - l.n

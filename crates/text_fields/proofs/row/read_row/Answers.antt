@@ -3,6 +3,7 @@ use Prim.Native.Nat.{◌+◌, ◌-◌}
 use mathlib.Core.Path.{◌≡◌}
 use native.Mathlib.Omega.{arith}
 use lib.ListN.{length}
+use Rattle.std.proofs.lemmas.List.{set-get_or}
 use Rattle.text_fields.proofs.RowLaws.{end_ends, row_start, row_end, row_more, row_malformed}
 use Rattle.text_fields.proofs.row.read_row.Goals as goal
 
@@ -13,11 +14,11 @@ pub read_number-requires : goal.read_number-requires
 read_number-requires c = rw c.end_before-end.ensures (end_ends _)
 
 pub returns-in_err-number : goal.returns-in_err-number
-returns-in_err-number c = let told = row_malformed c.loop-i.invariant {j = length c.loop-i.row - 1 - c.loop-i.i} (omega arith) (omega arith) (rw c.end_before-end.ensures at c.in_err-number.ensures) in rw c.from_residual.ensures (record { means = told.0; written = told.1 })
+returns-in_err-number c = let told = row_malformed c.loop-i.invariant {j = length c.args.row.now - 1 - c.loop-i.i} (omega arith) (omega arith) (rw c.end_before-end.ensures at c.in_err-number.ensures) in rw (c.from_residual.ensures, set-get_or) (record { means = told.0; written = told.1 })
 
 pub loop-i-preserved : goal.loop-i-preserved
 loop-i-preserved c =
-    let left : length c.args.row.now - (c.loop-i.i + 1) ≡ length c.loop-i.row - 1 - c.loop-i.i = omega arith in
+    let left : length c.args.row.now - (c.loop-i.i + 1) ≡ length c.args.row.now - 1 - c.loop-i.i = omega arith in
     rw left (row_more c.loop-i.invariant (omega arith) (omega arith) (rw c.end_before-end.ensures at c.in_ok-number.ensures))
 
 pub returns : goal.returns

@@ -11,22 +11,22 @@ use Rattle.text_writing.proofs.names.put_positions_line.Goals as goal
 
 pub put_code_name-account-requires : goal.put_code_name-account-requires
 put_code_name-account-requires c =
-    let room : c.args.at + (length (code_name c.args.coded) + (8 + length (form_name c.args.form))) ≤ length c.args.text.now = omega (arith, length-positions c.args.form c.args.coded, c.requires) in
+    let room : c.args.at + (length (code_name c.args.columns.coded) + (8 + length (form_name c.args.columns.form))) ≤ length c.args.text.now = omega (arith, length-positions c.args.columns.form c.args.columns.coded, c.requires) in
     omega (arith, room)
 
 pub put_line-last-requires : goal.put_line-last-requires
 put_line-last-requires c =
-    let room : c.args.at + (length (code_name c.args.coded) + (8 + length (form_name c.args.form))) ≤ length c.args.text.now = omega (arith, length-positions c.args.form c.args.coded, c.requires) in
+    let room : c.args.at + (length (code_name c.args.columns.coded) + (8 + length (form_name c.args.columns.form))) ≤ length c.args.text.now = omega (arith, length-positions c.args.columns.form c.args.columns.coded, c.requires) in
     omega (arith, room, c.put_code_name-account.ensures.after, c.put_code_name-account.auto.text)
 
 pub put_form_name-requires : goal.put_form_name-requires
 put_form_name-requires c =
-    let room : c.args.at + (length (code_name c.args.coded) + (8 + length (form_name c.args.form))) ≤ length c.args.text.now = omega (arith, length-positions c.args.form c.args.coded, c.requires) in
+    let room : c.args.at + (length (code_name c.args.columns.coded) + (8 + length (form_name c.args.columns.form))) ≤ length c.args.text.now = omega (arith, length-positions c.args.columns.form c.args.columns.coded, c.requires) in
     omega (arith, room, c.put_code_name-account.ensures.after, c.put_code_name-account.auto.text, c.put_line-last.ensures.after, c.put_line-last.auto.text)
 
 pub returns : goal.returns
 unfolding positions_line account_line account_name ascii
 returns c =
-    let room : c.args.at + (length (code_name c.args.coded) + (8 + length (form_name c.args.form))) ≤ length c.args.text.now = omega (arith, length-positions c.args.form c.args.coded, c.requires) in
-    put_append (code_name c.args.coded) (account_name ++ form_name c.args.form) c.args.text.now c.args.at _ _ _ _ (omega (arith, room)) c.put_code_name-account.ensures
-    (put_append account_name (form_name c.args.form) _ _ _ _ _ _ (omega (arith, room, c.put_code_name-account.ensures.after, c.put_code_name-account.auto.text)) c.put_line-last.ensures c.put_form_name.ensures)
+    let room : c.args.at + (length (code_name c.args.columns.coded) + (8 + length (form_name c.args.columns.form))) ≤ length c.args.text.now = omega (arith, length-positions c.args.columns.form c.args.columns.coded, c.requires) in
+    put_append (code_name c.args.columns.coded) (account_name ++ form_name c.args.columns.form) c.args.text.now c.args.at _ _ _ _ (omega (arith, room)) c.put_code_name-account.ensures
+    (put_append account_name (form_name c.args.columns.form) _ _ _ _ _ _ (omega (arith, room, c.put_code_name-account.ensures.after, c.put_code_name-account.auto.text)) c.put_line-last.ensures c.put_form_name.ensures)

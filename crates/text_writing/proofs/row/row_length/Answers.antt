@@ -1,25 +1,35 @@
--- `row::row_length` meets its contract. The loop's invariant: the sum with the length of the rest of the line is the length of the line, and each number passed gave at most 11.
-use mathlib.Core.Path.{◌≡◌, sym, ap, ◌∙◌}
+-- `row::row_length` meets its contract: what `sum` comes to of the digits of the numbers, at most ten each.
+use Prim.Native.Nat.{◌^◌}
+use mathlib.Core.Path.{◌≡◌}
 use native.Mathlib.Omega.{arith}
-use lib.ListN.{length, get_or}
-use Rattle.text_rules.specs.Fields.{COMMA, NEWLINE}
-use Rattle.text_rules.specs.Rows.{write_row}
+use lib.ListN.{length}
+use Rattle.std.specs.List.{sum_by}
+use Rattle.std.proofs.Common.{rules, tests}
+use Rattle.std.proofs.lemmas.Iterator.{YieldsList-from_slice, YieldsList-from_map}
+use Rattle.std.proofs.lemmas.Iterator.Adapters.{fits_from_length, at_most_from_yields_List}
+use Rattle.std.proofs.lemmas.Iterator.Consumers.{sum_by_from_yields_List}
+use Rattle.text_rules.specs.Numbers.{decimal}
 use Rattle.text_rules.proofs.DecimalLaws.{digits-few}
-use Rattle.text_rules.proofs.LengthLaws.{row_next_length, row_done, length-parted}
+use Rattle.text_rules.proofs.LengthLaws.{length-parted}
+use Rattle.text_writing.proofs.TableLaws.{row_digits, digits_within}
 use Rattle.text_writing.proofs.row.row_length.Goals as goal
+use Rattle.text_writing.proofs.row.row_length.Goals.{After-sum-digits}
 
-pub overflow_add-sum : goal.overflow_add-sum
-overflow_add-sum c = omega (arith, c.digits_of.ensures, digits-few (get_or c.args.row.now c.loop-number.number-index 0))
+pub sum-digits-requires-clause-fits : goal.sum-digits-requires-clause-fits
+sum-digits-requires-clause-fits c =
+    fits_from_length _ _ 1024 (2 ^ 64) (at_most_from_yields_List (YieldsList-from_slice c.args.row.now cc) c.requires) c.map.ensures.closure (omega arith) (λ x r q k. let told : (q ≡ record {}) × (r ≡ length (decimal x.now)) = search (rules, tests) in (told.0, omega (arith, told.1, digits-few x.now)))
 
-pub overflow_add-sum-in-loop-number : goal.overflow_add-sum-in-loop-number
-overflow_add-sum-in-loop-number c = omega (arith, c.digits_of.ensures, digits-few (get_or c.args.row.now c.loop-number.number-index 0))
+-- the digits of the row
+digits : (c : After-sum-digits) → c.sum-digits.result ≡ sum_by (λ n. length (decimal n)) c.args.row.now
+digits c = sum_by_from_yields_List (λ n. length (decimal n)) c.args.row.now _ _ c.sum-digits.ensures.ran (YieldsList-from_map _ (λ n. length (decimal n)) (YieldsList-from_slice c.args.row.now cc) c.map.ensures.closure (λ x r q k. search (rules, tests)))
 
-pub loop-number-preserved : goal.loop-number-preserved
-loop-number-preserved c =
-    let i = c.loop-number.number-index in
-    let few = digits-few (get_or c.args.row.now i 0) in
-    (omega (arith, c.digits_of.ensures, row_next_length COMMA NEWLINE c.args.row.now i (omega arith)), omega (arith, c.digits_of.ensures, few))
+pub overflow_add-result : goal.overflow_add-result
+overflow_add-result c = omega (arith, digits (goal.at.overflow_add-result c).After-sum-digits, digits_within c.args.row.now, c.requires)
 
 pub returns : goal.returns
-returns c = let line : c.loop-number.sum ≡ length (write_row c.args.row.now) = omega (arith, ap length (row_done COMMA NEWLINE c.args.row.now c.loop-number.number-index (omega arith))) in
-    record { long = λ part end. line ∙ sym (length-parted part end c.args.row.now); few = omega arith }
+returns c =
+    let e = digits (goal.at.returns c).After-sum-digits in
+    record {
+      long = λ part end. omega (arith, e, row_digits c.args.row.now, length-parted part end c.args.row.now);
+      few = omega (arith, e, digits_within c.args.row.now);
+    }
