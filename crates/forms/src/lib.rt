@@ -43,7 +43,7 @@ impl<'a> Listing<'a> {
     }
 }
 
-// The other form, which is what document 02 names a change: no conversion, and no operator's meaning.
+// The other form, as document 02's change makes it. No impl of `Not`: a form is neither true nor false.
 pub fn other(form: Form) -> Form
     ensures { result ≡ other_form form }
 {

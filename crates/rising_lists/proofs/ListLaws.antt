@@ -1,9 +1,8 @@
 -- The rows of a list, as the code tries them.
 use Prim.Native.Nat.{ℕ, zero, suc, ◌+◌, ◌-◌, ◌≤◌, ◌<◌}
-use Rattle.std.proofs.lemmas.Bool.Decides.{nat_tests}
 use mathlib.Core.Path.{◌≡◌, refl, sym, ap, ◌∙◌}
 use mathlib.Core.Bool.{Bool, true, false, ◌||◌, cond}
-use mathlib.Core.List.{List, [], ◌∷◌}
+use mathlib.Core.List.{List, [], ◌∷◌, ◌++◌}
 use native.Mathlib.Omega.{arith}
 use native.Mathlib.Nat.{le_refl}
 use native.Mathlib.Numerals.{add-one, lt_of_le_of_ne}
@@ -11,13 +10,18 @@ use lib.Dec.{eqb, ltb, leb}
 use lib.ListN.{length, get_or, drop, drop_of_length-le}
 use lib.Seq.{drop-cons}
 use borrow.Author.Tests.{lt-ltb, le-ltb, le-leb, lt-leb, ne_eqb, ltb-true, ltb-false, eqb-true, eqb-false}
-use Rattle.series.specs.Results.{Result, refused, value}
+use Rattle.std.proofs.lemmas.List.{append_assoc}
+use Rattle.series.specs.Results.{Result, refused, value, ◌>>=◌}
 use Rattle.series.specs.Places.{total}
 use Rattle.series.specs.Series.{MOST_CONTRACTS}
 use Rattle.series.specs.Refusals.{Row, first, NoneApplies, length_rows, room_rows, stands_in, account_refused, position_rows, list_rows, positions_verdict, list_verdict_for}
+use Rattle.std.specs.Prelude.{Some, None, Ok, Option as Option·}
+use Rattle.std.specs.Option.{ok_or}
 use Rattle.series.specs.declared.Method.{Method}
+use Rattle.series.specs.declared.Contracts.{Contracts}
+use Rattle.series.specs.declared.Refusal.{Refusal}
 use Rattle.rising_lists.specs.Even.{EvenList}
-use Rattle.rising_lists.specs.Judged.{left_after}
+use Rattle.rising_lists.specs.Judged.{judged_of, lengths_verdict, left_after, rises, WalkTells, FallsOnly}
 use Rattle.rising_lists.specs.Earlier.{down_from, earlier}
 use Rattle.series.proofs.RowLaws.{row_at, passed_first, refused-at}
 
@@ -147,14 +151,18 @@ pub record Rising (order accounts shorts : List ℕ) (before highest left i : �
   pub judging : (m : Method) → Judging m order accounts shorts before left i
   pub below : (j : ℕ) → j < i → get_or accounts j 0 ≤ highest
   pub same : order ≡ accounts → before ≡ highest
+  pub rest_rises : rises 0 accounts ≡ rises highest (drop i accounts)
 
 pub rising_start : (order accounts shorts : List ℕ) → Rising order accounts shorts 0 0 MOST_CONTRACTS 0
-rising_start order accounts shorts = record { judging = λ m. judging_start m order accounts shorts; below = λ j lt. absurd (omega arith); same = λ e. refl }
+rising_start order accounts shorts = record { judging = λ m. judging_start m order accounts shorts; below = λ j lt. absurd (omega arith); same = λ e. refl; rest_rises = refl }
 
 module _ {order accounts shorts : List ℕ} {before highest left i : ℕ} (r : Rising order accounts shorts before highest left i) where
   -- an account that does not rise, in an order that does
-  pub rising_falls : before < get_or order i 0 → get_or accounts i 0 ≤ highest → order ≡ accounts → ⊥
-  rising_falls above under e = omega (arith, r.same e, ap (λ (l : List ℕ). get_or l i 0) e)
+  pub rising_falls : EvenList order accounts shorts → i < length shorts → before < get_or order i 0 → get_or accounts i 0 ≤ highest → (order ≡ accounts → ⊥) × (rises 0 accounts ≡ false)
+  unfolding rises
+  rising_falls even h above under =
+      let k : i < length accounts = omega (arith, even.lengths) in
+      (λ e. omega (arith, r.same e, ap (λ (l : List ℕ). get_or l i 0) e), r.rest_rises ∙ rw (drop-cons accounts i 0 k, le-ltb highest (get_or accounts i 0) under) refl)
 
   module _ (higher : highest < get_or accounts i 0) where
     -- an account that rises is new
@@ -165,21 +173,52 @@ module _ {order accounts shorts : List ℕ} {before highest left i : ℕ} (r : R
 
     pub rising_next : EvenList order accounts shorts → i < length shorts → before < get_or order i 0 → (x : ℕ) → value x ≡ left_after (get_or shorts i 0) left
         → Rising order accounts shorts (get_or order i 0) (get_or accounts i 0) x (i + 1)
+    unfolding rises
     rising_next even h above x e =
         record {
           judging = λ m. judging_next even (r.judging m) h above (rising_new m) x e;
           below = λ j lt. at_most j lt (eqb j i) refl;
           same = λ e. ap (λ (l : List ℕ). get_or l i 0) e;
+          rest_rises = still even h;
         }
       where
         at_most : (j : ℕ) → j < i + 1 → (t : Bool) → eqb j i ≡ t → get_or accounts j 0 ≤ get_or accounts i 0
         at_most j lt true e = let is : j ≡ i = eqb-true j i e in rw is (le_refl (get_or accounts i 0))
         at_most j lt false e = omega (arith, r.below j (lt_of_le_of_ne (omega arith) (eqb-false j i e)))
 
+        still : EvenList order accounts shorts → i < length shorts → rises 0 accounts ≡ rises (get_or accounts i 0) (drop (i + 1) accounts)
+        still even h =
+            let k : i < length accounts = omega (arith, even.lengths) in
+            r.rest_rises ∙ rw (drop-cons accounts i 0 k, lt-ltb highest (get_or accounts i 0) higher, add-one i) refl
+
 -- ---- the list
 
--- a list whose lengths no row refuses is judged by its positions
-pub judged_positions : (m : Method) {order accounts shorts : List ℕ} {room : ℕ} → EvenList order accounts shorts → (length shorts ≡ 0 → ⊥) → length shorts ≤ room
-    → list_verdict_for m order accounts shorts room ≡ positions_verdict m order accounts shorts
-unfolding first list_rows length_rows room_rows
-judged_positions m even some fits = grind (arith, nat_tests, even.lengths, even.ordered, even.few)
+-- rows above others, whatever the value that passes the first ones
+first-then : {A B : Type 0} (xs ys : List Row) (a : A) (b : B) → first (xs ++ ys) a ≡ (first xs b >>= λ _. first ys a)
+unfolding first
+first-then [] ys a b = refl
+first-then (x ∷ xs) ys a b = step x.holds (first-then xs ys a b)
+  where
+    step : (t : Bool) → first (xs ++ ys) a ≡ (first xs b >>= λ _. first ys a) → cond t (refused x.number) (first (xs ++ ys) a) ≡ (cond t (refused x.number) (first xs b) >>= λ _. first ys a)
+    step true h = refl
+    step false h = h
+
+module _ (order accounts shorts : List ℕ) (room : ℕ) where
+  lengths_then : (m : Method) → list_verdict_for m order accounts shorts room ≡ (lengths_verdict order accounts shorts room >>= λ _. positions_verdict m order accounts shorts)
+  unfolding list_rows
+  lengths_then m =
+      ap (λ rows. first rows (total shorts)) (sym (append_assoc (length_rows order accounts shorts) (room_rows shorts room) (position_rows m [] 0 0 order accounts shorts)))
+      ∙ first-then (length_rows order accounts shorts ++ room_rows shorts room) (position_rows m [] 0 0 order accounts shorts) (total shorts) tt
+
+  -- a refusal of the lengths is the list's
+  pub lengths_refused : (n : ℕ) → refused n ≡ lengths_verdict order accounts shorts room → (m : Method) → refused n ≡ list_verdict_for m order accounts shorts room
+  lengths_refused n e m = sym (lengths_then m ∙ rw (← e) refl)
+
+  -- where the lengths are judged, the positions decide
+  pub lengths_passed : value tt ≡ lengths_verdict order accounts shorts room → (m : Method) → list_verdict_for m order accounts shorts room ≡ positions_verdict m order accounts shorts
+  lengths_passed e m = lengths_then m ∙ rw (← e) refl
+
+-- of a list that rises by its accounts every walk tells the verdict
+pub walked_by_account : (o : Option· Contracts) (v : Result ℕ) (accounts : List ℕ) → WalkTells (Ok o) v → FallsOnly (Ok o) accounts accounts → judged_of (ok_or o Refusal.OutOfOrder) ≡ v
+walked_by_account (Some T) v accounts tells falls = tells
+walked_by_account None v accounts tells falls = absurd (falls.0 refl)

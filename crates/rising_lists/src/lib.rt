@@ -1,11 +1,11 @@
 // Judging a list while its accounts rise, in the order of document 01's table: T, the first refusal that applies, or that an account does not rise.
 #![tactic(auto)]
 
-ghost use Rattle.std.specs.Prelude.{◌≡◌};
+ghost use Rattle.std.specs.Prelude.{◌≡◌, IfOk};
 ghost use Rattle.series.specs.Refusals.{positions_verdict, list_verdict_for};
 ghost use Rattle.series.specs.Answers.{outcome_of};
 ghost use Rattle.series.specs.declared.Method.{Method as Method·};
-ghost use Rattle.rising_lists.specs.Judged.{judged_of, left_after, WalkTells, FallsOnly, LengthsTell};
+ghost use Rattle.rising_lists.specs.Judged.{judged_of, lengths_verdict, left_after, WalkTells, FallsOnly};
 
 mod even_positions;
 
@@ -33,7 +33,8 @@ pub fn judge_lengths<'a>(
     positions: &Positions<'a>,
     room: usize,
 ) -> Result<EvenPositions<'a>, Refusal>
-    ensures { LengthsTell result positions.now room }
+    ensures judged { outcome_of (λ _. tt) result ≡ lengths_verdict positions.now.codes.now positions.now.accounts.now positions.now.shorts.now room }
+    ensures list { IfOk result (λ even. even.positions ≡ positions.now) }
 {
     let number = positions.shorts.len();
     if positions.accounts.len() != number || positions.codes.len() != number {
@@ -53,7 +54,7 @@ pub fn judge_lengths<'a>(
     })
 }
 
-// The list, which rises by its codes, each position in turn, while its accounts rise too. None: an account does not.
+// The list, which rises by its codes, each position in turn, while its accounts rise too. None: an account does not. Whether that or a refusal that stands later is answered is left open, since the verdict follows from either.
 pub fn judge_rising(list: &EvenPositions) -> Result<Option<Contracts>, Refusal>
     ensures walk_tells { (m : Method·) → WalkTells result (positions_verdict m list.now.positions.codes.now list.now.positions.accounts.now list.now.positions.shorts.now) }
     ensures falls_only { FallsOnly result list.now.positions.codes.now list.now.positions.accounts.now }

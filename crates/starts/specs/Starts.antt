@@ -1,13 +1,11 @@
 -- How the starting number and the remainder draw start.
-use Rattle.std.specs.Prelude.{ℕ, Option as Option·}
-use Rattle.std.proofs.Math.Option.{Option}
+use Rattle.std.specs.Prelude.{ℕ}
 use Rattle.series.specs.Places.{OnWheel}
 use Rattle.series.specs.Series.{by_method}
 use Rattle.series.specs.Lottery.{starting_place}
 use Rattle.series.specs.RemainderDraw.{remainder_place}
-use Rattle.series.specs.Answers.{place_of}
+pub use Rattle.series.specs.Answers.{place_of as start_of}
 use Rattle.series.specs.declared.Method.{Method}
-use Rattle.series.specs.declared.Place.{Place}
 use Rattle.starts.specs.declared.StartBy.{StartBy}
 
 -- how the draw leads to a starting place under L or R; W and P do not ask
@@ -28,7 +26,3 @@ place_by StartBy.Remainder T draw = remainder_place T draw
 abbrev pub Leads : StartBy → ℕ → Type 0
 Leads StartBy.TenThousandths draw = OnWheel 10000 draw
 Leads StartBy.Remainder draw = Unit
-
--- the starting place, or none
-abbrev pub start_of : Option· Place → Option ℕ
-start_of p = place_of p

@@ -107,20 +107,23 @@ pub record Left (vs old : List ℕ) (at : ℕ) (left new : List ℕ) (i : ℕ) :
   pub after : i + length left ≡ at + length vs
   pub long : length new ≡ length old
 
--- of the bytes that are left, the first ones are put
-pub put_more : (vs old : List ℕ) (at : ℕ) (ws left new : List ℕ) (i : ℕ) (new' : List ℕ) (j : ℕ) → at + length vs ≤ length old → Left vs old at (ws ++ left) new i → Put ws new i new' j → Left vs old at left new' j
-put_more vs old at ws left new i new' j fits so p =
-    let e : length (ws ++ left) ≡ length ws + length left = length-append ws left in
-    let room : i + length ws ≤ length new = omega (arith, so.after, so.long) in
+-- of the bytes that are left, there is room for the first ones
+pub left_fits : {vs old : List ℕ} {at : ℕ} (ws left : List ℕ) {new : List ℕ} {i : ℕ} → at + length vs ≤ length old → Left vs old at (ws ++ left) new i → i + length ws ≤ length new
+left_fits ws left fits so = omega (arith, fits, so.after, so.long, length-append ws left)
+
+-- and they are put
+pub put_more : {vs old : List ℕ} {at : ℕ} {ws left new new' : List ℕ} {i j : ℕ} → at + length vs ≤ length old → Left vs old at (ws ++ left) new i → Put ws new i new' j → Left vs old at left new' j
+put_more {ws = ws} {left = left} {new = new} {i = i} fits so p =
+    let room = left_fits ws left fits so in
     record {
       text = rw (p.text, p.after, placed-placed ws left i new room) so.text;
-      after = omega (arith, p.after, so.after);
+      after = omega (arith, p.after, so.after, length-append ws left);
       long = ap length p.text ∙ length-placed ws i new room ∙ so.long;
     }
 
 -- nothing is left
-pub put_end : (vs old : List ℕ) (at : ℕ) (new : List ℕ) (i : ℕ) → Left vs old at [] new i → Put vs old at new i
-put_end vs old at new i so = record { text = sym (placed-nil i new) ∙ so.text; after = omega (arith, so.after) }
+pub put_end : {vs old : List ℕ} {at : ℕ} {new : List ℕ} {i : ℕ} → Left vs old at [] new i → Put vs old at new i
+put_end {new = new} {i = i} so = record { text = sym (placed-nil i new) ∙ so.text; after = omega (arith, so.after) }
 
 -- ---- the digits of a number, from the last to the first
 

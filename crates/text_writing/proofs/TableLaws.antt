@@ -1,7 +1,7 @@
 -- Laws of a table: its columns, its rows and its lines.
 use Prim.Native.Nat.{ℕ, zero, suc, ◌+◌, ◌-◌, ◌*◌, ◌≤◌, ◌<◌}
 use mathlib.Core.Path.{◌≡◌, refl, sym, ap, ◌∙◌}
-use mathlib.Core.List.{List, [], ◌∷◌, map}
+use mathlib.Core.List.{List, [], ◌∷◌, ◌++◌, map}
 use native.Mathlib.Omega.{arith}
 use native.Mathlib.Numerals.{add-one}
 use borrow.Author.Tests.{eqb-true}
@@ -9,7 +9,7 @@ use denote.Bor.{Bor}
 use Rattle.std.specs.Prelude.{Some, None}
 use Rattle.std.specs.List.{slice_get, sum_by}
 use lib.Dec.{eqb}
-use lib.ListN.{length, get_or, length-map}
+use lib.ListN.{length, get_or, drop, length-map}
 use Rattle.std.proofs.lemmas.List.Recursion.{and_at}
 use Rattle.std.proofs.lemmas.List.Sums.{sum_by-cons}
 use Rattle.series.specs.Sums.{sum_below, listed}
@@ -19,7 +19,7 @@ use Rattle.text_rules.specs.Fields.{COMMA, NEWLINE, end_before, write_number}
 use Rattle.text_rules.specs.Rows.{write_parted, write_row, write_rows, row_of, rows_of}
 use Rattle.text_rules.specs.Calls.{evenly, line_count}
 use Rattle.text_rules.proofs.DecimalLaws.{digits-few}
-use Rattle.text_rules.proofs.LengthLaws.{length-row, number_at, lines_of, lines_next_length, lines_within, even_each}
+use Rattle.text_rules.proofs.LengthLaws.{length-row, row_next, lines_of, lines_next_length, lines_within, even_each}
 use Rattle.text_rules.proofs.RowLaws.{Each}
 use Rattle.text_writing.specs.Columns.{Even}
 
@@ -59,9 +59,10 @@ row_at [] i j lt = absurd (omega arith)
 row_at (b ∷ bs) i zero lt = refl
 row_at (b ∷ bs) i (suc j) lt = row_at bs i j (omega arith)
 
--- and is written with the byte that ends its field
-pub row_field : (bs : List (Bor (List ℕ))) (i j end : ℕ) → j < length bs → end ≡ end_before COMMA NEWLINE (length bs - j - 1) → write_number (get_or ((get_or bs j nowhere).now) i 0) end ≡ number_at COMMA NEWLINE (row_of (behind bs) i) j
-row_field bs i j end lt e = rw (row_at bs i j lt, row_long bs i, e) refl
+-- what is left of it from number j on is that number, with the byte that ends its field, and what is left after it
+pub row_step : (bs : List (Bor (List ℕ))) (i j end : ℕ) → j < length bs → end ≡ end_before COMMA NEWLINE (length bs - j - 1)
+    → write_row (drop j (row_of (behind bs) i)) ≡ write_number (get_or ((get_or bs j nowhere).now) i 0) end ++ write_row (drop (j + 1) (row_of (behind bs) i))
+row_step bs i j end lt e = rw (row_next COMMA NEWLINE (row_of (behind bs) i) j (omega (arith, row_long bs i)), row_at bs i j lt, row_long bs i, e) refl
 
 -- the lines are those of the rows
 pub lines_whole : (cs : List (List ℕ)) → lines_of (row_of cs) (line_count cs) ≡ write_rows (rows_of cs)

@@ -13,15 +13,13 @@ use Rattle.forms.specs.Forms.{Listing}
 use Rattle.forms.specs.declared.Form.{Form}
 use Rattle.series.specs.declared.Terms.{Terms}
 use Rattle.text_rules.specs.Fields.{Text, COMMA}
-use Rattle.text_rules.specs.Rows.{write_row, write_rows, rows_of}
+use Rattle.text_rules.specs.Rows.{write_row}
 use Rattle.text_rules.specs.Names.{terms_line, terms_numbers, columns_in, positions_line}
 use Rattle.text_rules.specs.Letters.{letter}
 use Rattle.text_rules.specs.Text.{MOST_BYTES, terms_row, write_terms, Optional, write_head, columns, writes_codes, written_columns}
 use Rattle.text_rules.specs.declared.TermsColumns.{TermsColumns}
 use Rattle.text_rules.specs.Calls.{head_and_lines, lines_into, write_into, length_of, WritingCall}
 use Rattle.text_writing.specs.Parts.{Put}
-use Rattle.text_writing.specs.Columns.{columns_of, written}
-use Rattle.text_writing.specs.declared.table.Table.{Table}
 use Rattle.text_writing.specs.Tables.{tables_into, both_within}
 use Rattle.series.proofs.ResultLaws.{never, not_refused}
 use Rattle.text_rules.proofs.LengthLaws.{length-head, head_room}
@@ -58,17 +56,6 @@ put_writes : (w : Result Text) (old s new : Text) (n : ℕ) → w ≡ value s �
 unfolding length_of
 put_writes w old s new n e p = rw e (record { answered = ap value (p.after ∙ zero-add (length s)); written = p.text ∙ placed-onto s old })
 
--- ---- a head and lines, measured
-
--- the length of a head and lines, which are then gone on with
-pub record Measured (head : Text) (cs : List (List ℕ)) (n : ℕ) : Type 0 where
-  pub is : head_and_lines head cs ≡ value (head ++ write_rows (rows_of cs))
-  pub bytes : n ≡ length (head ++ write_rows (rows_of cs))
-
--- a table that was judged, and its length
-pub measured : {even t : Table} {n : ℕ} → (even ≡ t) × (value (written t) ≡ head_and_lines t.names.now (columns_of t)) → n ≡ length (written even) → Measured t.names.now (columns_of t) n
-measured told e = record { is = sym told.1; bytes = e ∙ ap (λ t. length (written t)) told.0 }
-
 -- ---- what writing a listing leaves
 
 -- the head and the columns are those of a listing
@@ -76,32 +63,29 @@ pub record OfListing (t : Listing) (head : Text) (cs : List (List ℕ)) : Type 0
   pub head_is : head ≡ write_head (written_columns t) t.form t.terms
   pub columns_are : cs ≡ columns (writes_codes t) t
 
-module _ (t : Listing) (head : Text) (cs : List (List ℕ)) (of : OfListing t head cs) (old : Text) (n : ℕ) where
+module _ (t : Listing) {head : Text} {cs : List (List ℕ)} (of : OfListing t head cs) (old : Text) where
   -- a refusal of the columns
-  pub text-refused : refused n ≡ head_and_lines head cs → WritingCall (write_into t (length old)) (refused n) old old
+  pub text-refused : {n : ℕ} → refused n ≡ head_and_lines head cs → WritingCall (write_into t (length old)) (refused n) old old
   unfolding write_into
-  text-refused e = refused-writes _ old n (rw (← of.head_is, ← of.columns_are, ← e))
+  text-refused {n} e = refused-writes _ old n (rw (← of.head_is, ← of.columns_are, ← e))
 
-  module _ (m : Measured head cs n) where
+  -- the text s, of n bytes
+  module _ {s : Text} {n : ℕ} (is : value s ≡ head_and_lines head cs) (bytes : n ≡ length s) where
     -- the text would pass 32,768 bytes
     pub text-long : MOST_BYTES < n → WritingCall (write_into t (length old)) (refused 11) old old
     unfolding write_into
-    text-long over = refused-writes _ old 11 (rw (← of.head_is, ← of.columns_are, m.is, ← m.bytes, lt-ltb MOST_BYTES n over))
+    text-long over = refused-writes _ old 11 (rw (← of.head_is, ← of.columns_are, ← is, ← bytes, lt-ltb MOST_BYTES n over))
 
     module _ (fits : n ≤ MOST_BYTES) where
       pub text-short : length old < n → WritingCall (write_into t (length old)) (refused 4) old old
       unfolding write_into
-      text-short over = refused-writes _ old 4 (rw (← of.head_is, ← of.columns_are, m.is, ← m.bytes, le-ltb MOST_BYTES n fits, ← m.bytes, lt-ltb (length old) n over))
+      text-short over = refused-writes _ old 4 (rw (← of.head_is, ← of.columns_are, ← is, ← bytes, le-ltb MOST_BYTES n fits, ← bytes, lt-ltb (length old) n over))
 
-      pub text_put : n ≤ length old → (new : Text) (k : ℕ) → Put (head ++ write_rows (rows_of cs)) old 0 new k → WritingCall (write_into t (length old)) (value k) old new
+      pub text_put : n ≤ length old → {new : Text} {k : ℕ} → Put s old 0 new k → WritingCall (write_into t (length old)) (value k) old new
       unfolding write_into
-      text_put room new k p = put_writes _ old _ new k (rw (← of.head_is, ← of.columns_are, m.is, ← m.bytes, le-ltb MOST_BYTES n fits, ← m.bytes, le-ltb (length old) n room)) p
+      text_put room {new} {k} p = put_writes _ old s new k (rw (← of.head_is, ← of.columns_are, ← is, ← bytes, le-ltb MOST_BYTES n fits, ← bytes, le-ltb (length old) n room)) p
 
 -- ---- what writing tables leaves
-
--- a head and its lines
-abbrev pub headed : Text → List (List ℕ) → Text
-headed head cs = head ++ write_rows (rows_of cs)
 
 module _ (head : Text) (cs : List (List ℕ)) (old : Text) where
   -- a refusal of the columns
@@ -109,14 +93,14 @@ module _ (head : Text) (cs : List (List ℕ)) (old : Text) where
   unfolding lines_into
   table_refused {n} e = refused-writes _ old n (rw (← e))
 
-  module _ (is : value (headed head cs) ≡ head_and_lines head cs) where
-    pub table_short : length old < length (headed head cs) → WritingCall (lines_into head cs (length old)) (refused 4) old old
+  module _ {s : Text} (is : value s ≡ head_and_lines head cs) where
+    pub table_short : length old < length s → WritingCall (lines_into head cs (length old)) (refused 4) old old
     unfolding lines_into
-    table_short over = refused-writes _ old 4 (rw (← is, lt-ltb (length old) (length (headed head cs)) over))
+    table_short over = refused-writes _ old 4 (rw (← is, lt-ltb (length old) (length s) over))
 
-    pub table_put : length (headed head cs) ≤ length old → (new : Text) (k : ℕ) → Put (headed head cs) old 0 new k → WritingCall (lines_into head cs (length old)) (value k) old new
+    pub table_put : length s ≤ length old → {new : Text} {k : ℕ} → Put s old 0 new k → WritingCall (lines_into head cs (length old)) (value k) old new
     unfolding lines_into
-    table_put room new k p = put_writes _ old (headed head cs) new k (rw (← is, le-ltb (length old) (length (headed head cs)) room)) p
+    table_put room {new} {k} p = put_writes _ old s new k (rw (← is, le-ltb (length old) (length s) room)) p
 
 module _ (head : Text) (cs : List (List ℕ)) (head2 : Text) (cs2 : List (List ℕ)) (old : Text) where
   -- a refusal of the first table's columns
@@ -124,30 +108,27 @@ module _ (head : Text) (cs : List (List ℕ)) (head2 : Text) (cs2 : List (List �
   unfolding tables_into
   first_refused {n} e = refused-writes _ old n (rw (← e))
 
-  module _ (is : value (headed head cs) ≡ head_and_lines head cs) where
+  module _ {s : Text} (is : value s ≡ head_and_lines head cs) where
     -- then one of the second table's
     pub second_refused : {n : ℕ} → refused n ≡ head_and_lines head2 cs2 → WritingCall (tables_into head cs head2 cs2 (length old)) (refused n) old old
     unfolding tables_into
     second_refused {n} e = refused-writes _ old n (rw (← is, ← e))
 
-    module _ (is2 : value (headed head2 cs2) ≡ head_and_lines head2 cs2) where
-      abbrev both : Text
-      both = headed head cs ++ headed head2 cs2
-
+    module _ {s2 : Text} (is2 : value s2 ≡ head_and_lines head2 cs2) where
       -- then that of the room
-      pub tables_short : (n : ℕ) → refused n ≡ both_within (value (length (headed head cs))) (value (length (headed head2 cs2))) (length old) → WritingCall (tables_into head cs head2 cs2 (length old)) (refused n) old old
+      pub tables_short : {n : ℕ} → refused n ≡ both_within (value (length s)) (value (length s2)) (length old) → WritingCall (tables_into head cs head2 cs2 (length old)) (refused n) old old
       unfolding tables_into both_within
-      tables_short n e = refused-writes _ old n (rw (← is, ← is2, length-append) (go (ltb (length old) (length (headed head cs) + length (headed head2 cs2))) e))
+      tables_short {n} e = refused-writes _ old n (rw (← is, ← is2, length-append) (go (ltb (length old) (length s + length s2)) e))
         where
-          go : (over : Bool) → refused n ≡ refuse over 4 (length (headed head cs) + length (headed head2 cs2)) → refuse over 4 both ≡ refused n
+          go : (over : Bool) → refused n ≡ refuse over 4 (length s + length s2) → refuse over 4 (s ++ s2) ≡ refused n
           go true e = let four : 4 ≡ n = cc in ap refused four
           go false e = absurd (never n _ e)
 
-      pub tables_put : length (headed head cs) + length (headed head2 cs2) ≤ length old → (mid new : Text) (i k : ℕ) → Put (headed head cs) old 0 mid i → Put (headed head2 cs2) mid i new k → WritingCall (tables_into head cs head2 cs2 (length old)) (value k) old new
+      pub tables_put : length s + length s2 ≤ length old → {mid new : Text} {i k : ℕ} → Put s old 0 mid i → Put s2 mid i new k → WritingCall (tables_into head cs head2 cs2 (length old)) (value k) old new
       unfolding tables_into
-      tables_put fits mid new i k p1 p2 =
-          let room : length both ≤ length old = omega (arith, fits, length-append (headed head cs) (headed head2 cs2)) in
-          put_writes _ old both new k (rw (← is, ← is2, le-ltb (length old) (length both) room)) (put_append (headed head cs) (headed head2 cs2) old 0 mid new i k (omega (arith, fits)) p1 p2)
+      tables_put fits {mid} {new} {i} {k} p1 p2 =
+          let room : length (s ++ s2) ≤ length old = omega (arith, fits, length-append s s2) in
+          put_writes _ old (s ++ s2) new k (rw (← is, ← is2, le-ltb (length old) (length (s ++ s2)) room)) (put_append s s2 old 0 mid new i k (omega (arith, fits)) p1 p2)
 
 -- where two texts fit, there is room for both
 pub both_fit : (m n room k : ℕ) → value k ≡ both_within (value m) (value n) room → m + n ≤ room

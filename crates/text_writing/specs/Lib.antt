@@ -1,6 +1,5 @@
 -- What writing answers and promises.
 pub mod Answers
 pub mod Columns
-pub mod Judged
 pub mod Parts
 pub mod Tables

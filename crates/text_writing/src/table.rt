@@ -1,5 +1,5 @@
 // A table: a names line as given, and a line for each row of its columns.
-ghost use Rattle.std.specs.Prelude.{◌≡◌, ◌≤◌, length};
+ghost use Rattle.std.specs.Prelude.{◌≡◌, ◌≤◌, length, IfOk};
 ghost use Rattle.series.specs.Results.{value};
 ghost use Rattle.text_writing.specs.Answers.{writing_of};
 ghost use Rattle.text_writing.specs.Tables.{both_within};
@@ -16,9 +16,9 @@ pub struct Table<'a> {
 }
 
 impl<'a> Table<'a> {
-    ghost use Rattle.text_rules.specs.Calls.{evenly, line_count};
-    ghost use Rattle.text_writing.specs.Columns.{columns_of};
-    ghost use Rattle.text_writing.specs.Judged.{ColumnsTell};
+    ghost use Rattle.series.specs.Answers.{outcome_of};
+    ghost use Rattle.text_rules.specs.Calls.{evenly, line_count, head_and_lines};
+    ghost use Rattle.text_writing.specs.Columns.{columns_of, written};
 
     // How many lines follow the names line.
     pub(crate) fn lines(&self) -> usize
@@ -40,7 +40,8 @@ impl<'a> Table<'a> {
 
     // Judges the columns: 1 where they differ in length, then 15.
     pub(crate) fn judged(&self) -> Result<EvenTable<'a>, Refusal>
-        ensures { ColumnsTell result self.now }
+        ensures judged { outcome_of (λ even. written even.table) result ≡ head_and_lines self.now.names.now (columns_of self.now) }
+        ensures table { IfOk result (λ even. even.table ≡ self.now) }
     {
         if !self.is_even() {
             return Err(Refusal::LengthsDiffer);

@@ -11,7 +11,7 @@ pub returns-then-code-before-clause-walk_tells : goal.returns-then-code-before-c
 returns-then-code-before-clause-walk_tells c = λ m. refused-order c.args.list.now.even (c.loop-i.invariant.judging m) c.loop-i-test.true c.if-code-before.true
 
 pub returns-then-account-highest-clause-falls_only : goal.returns-then-account-highest-clause-falls_only
-returns-then-account-highest-clause-falls_only c = rising_falls c.loop-i.invariant c.if-code-before.false c.if-account-highest.true
+returns-then-account-highest-clause-falls_only c = rising_falls c.loop-i.invariant c.args.list.now.even c.loop-i-test.true c.if-code-before.false c.if-account-highest.true
 
 pub returns-in_err-left-clause-walk_tells : goal.returns-in_err-left-clause-walk_tells
 returns-in_err-left-clause-walk_tells c = λ m.

@@ -15,7 +15,7 @@ use Rattle.text_rules.proofs.LengthLaws.{head_room}
 use Rattle.text_writing.specs.Parts.{Put}
 use Rattle.text_writing.proofs.PutLaws.{put_taken}
 use Rattle.text_writing.proofs.TableLaws.{behind}
-use Rattle.text_writing.proofs.WriteLaws.{OfListing, measured, text-refused, text-long, text-short, text_put}
+use Rattle.text_writing.proofs.WriteLaws.{OfListing, text-refused, text-long, text-short, text_put}
 use Rattle.text_writing.proofs.write.Goals as goal
 
 -- the columns that are shown where the first k are left out
@@ -49,20 +49,19 @@ slice_bounds-table-end c = sym (length-take-le _ _ (omega (arith, head_within c.
 pub returns-in_err-table : goal.returns-in_err-table
 returns-in_err-table c =
     let l = c.args.listing.now in
-    rw (refusal_met c.from_residual.result _ c.from_residual.ensures.1) (text-refused (listing_of l) _ _ (of_listing l c.put_head-n.ensures c.from-left_out.ensures c.same_numbers.ensures) c.args.text.now _ c.in_err-table.ensures)
+    rw (refusal_met c.from_residual.result _ c.from_residual.ensures.1) (text-refused (listing_of l) (of_listing l c.put_head-n.ensures c.from-left_out.ensures c.same_numbers.ensures) c.args.text.now c.in_err-table.ensures.judged)
 
 pub returns-then-bytes-gt32768 : goal.returns-then-bytes-gt32768
 returns-then-bytes-gt32768 c =
     let l = c.args.listing.now in
-    text-long (listing_of l) _ _ (of_listing l c.put_head-n.ensures c.from-left_out.ensures c.same_numbers.ensures) c.args.text.now _ (measured c.in_ok-table.ensures c.length-bytes.ensures) c.if-bytes-gt32768.true
+    text-long (listing_of l) (of_listing l c.put_head-n.ensures c.from-left_out.ensures c.same_numbers.ensures) c.args.text.now c.in_ok-table.ensures.judged c.length-bytes.ensures c.if-bytes-gt32768.true
 
 pub returns-then-text-bytes : goal.returns-then-text-bytes
 returns-then-text-bytes c =
     let l = c.args.listing.now in
-    text-short (listing_of l) _ _ (of_listing l c.put_head-n.ensures c.from-left_out.ensures c.same_numbers.ensures) c.args.text.now _ (measured c.in_ok-table.ensures c.length-bytes.ensures) c.if-bytes-gt32768.false c.if-text-bytes.true
+    text-short (listing_of l) (of_listing l c.put_head-n.ensures c.from-left_out.ensures c.same_numbers.ensures) c.args.text.now c.in_ok-table.ensures.judged c.length-bytes.ensures c.if-bytes-gt32768.false c.if-text-bytes.true
 
 pub returns : goal.returns
 returns c =
     let l = c.args.listing.now in
-    let put = rw c.in_ok-table.ensures.0 at c.put.ensures in
-    text_put (listing_of l) _ _ (of_listing l c.put_head-n.ensures c.from-left_out.ensures c.same_numbers.ensures) c.args.text.now _ (measured c.in_ok-table.ensures c.length-bytes.ensures) c.if-bytes-gt32768.false c.if-text-bytes.false _ _ put
+    text_put (listing_of l) (of_listing l c.put_head-n.ensures c.from-left_out.ensures c.same_numbers.ensures) c.args.text.now c.in_ok-table.ensures.judged c.length-bytes.ensures c.if-bytes-gt32768.false c.if-text-bytes.false c.put.ensures
